@@ -83,40 +83,61 @@ class Module:
                 yield own, first
 
 
-def headline():
-    """The contract of `tool`: its lines with the comment above, and the imports of its file as a module."""
-    code = next(read(path) for path in below("src", ".rt")
-                if path.parts[1] == "vms_tool" and "\npub fn tool<" in read(path))
-    before, _, after = code.partition("\npub fn tool<")
+def contracts():
+    """The contracts of the program, from its arguments to its exit code, and of `tool`: the lines of each with the comment
+    above, its clauses, and the imports of its file as a module."""
+    return [contract_of("run_program"), contract_of("tool")]
+
+
+def contract_of(name):
+    head = f"\npub fn {name}<"
+    code = next(read(path) for path in below("src", ".rt") if path.parts[1] == "vms_tool" and head in read(path))
+    before, _, after = code.partition(head)
     comment = re.search(r"(?:^///.*\n?)*\Z", before, re.M).group()
-    contract = "pub fn tool<" + after.partition("\n{")[0]
+    contract = head.strip() + after.partition("\n{")[0]
+    clauses = re.findall(r"(?:requires|ensures)(?: \w+)? (\{.*?\})(?=\s+(?:requires|ensures)|\s*$)", contract, re.S)
     imports = "\n".join(" ".join(line.split()) for line in re.findall(r"^ghost use [^;]*;", code, re.M))
-    return [*comment.splitlines(), *contract.splitlines()], Module(imports)
+    return [*comment.splitlines(), *contract.splitlines()], clauses, Module(imports)
 
 
-def below_the_clause():
-    """The definitions to which the clauses of `tool` lead, by module and name, the nearest first: their modules and how
-    many names lead to them. With them the types of code that they name, and how many names lead to each."""
-    modules = {}
-    for folder in ("specs", "proofs"):
-        for path in below(folder, ".antt"):
-            modules[".".join(("Rattle", path.parts[1], *path.parts[2:-1], path.stem))] = Module(read(path), path)
-    contract, start = headline()
-    clauses = re.findall(r"(?:requires|ensures) \w+ (\{.*?\})(?=\s+(?:requires|ensures)|\s*$)",
-                         "\n".join(contract), re.S)
-    found, types = {}, {}
-    waiting = [(named, 1) for named in start.named("", clauses)]
-    for (path, name), depth in waiting:
-        declared = DECLARED.match(path)
-        if declared:
-            types.setdefault(declared.groups(), depth)
-            continue
-        if path not in modules and path.rpartition(".")[0] in modules:
-            path, _, name = path.rpartition(".")  # a constructor of a `data`
-        module = modules.get(path)
-        if module and name in module.made and (path, name) not in found:
-            found[path, name] = module, depth
-            waiting += [(named, depth + 1) for named in module.named(path, module.made[name])]
-        elif module and name in module.names and name not in module.made:
-            waiting.append((module.names[name], depth))
-    return found, types
+class Below:
+    """The definitions to which names lead, by module and name, the nearest first: their modules and how many names lead
+    to them. With them the types of code that they name, and how many names lead to each, and the definitions at which
+    the way stops."""
+
+    def __init__(self, modules, stops=lambda module: False):
+        self.modules, self.stops = modules, stops
+        self.found, self.types, self.stopped = {}, {}, {}
+
+    def go(self, named):
+        """Goes on from these modules and names."""
+        waiting = [(it, 1) for it in named]
+        for (path, name), depth in waiting:
+            declared = DECLARED.match(path)
+            if declared:
+                self.types.setdefault(declared.groups(), depth)
+                continue
+            if path not in self.modules and path.rpartition(".")[0] in self.modules:
+                path, _, name = path.rpartition(".")  # a constructor of a `data`
+            module = self.modules.get(path)
+            if module and name in module.made:
+                if self.stops(module):
+                    self.stopped.setdefault((path, name), module)
+                elif (path, name) not in self.found:
+                    self.found[path, name] = module, depth
+                    waiting += [(it, depth + 1) for it in module.named(path, module.made[name])]
+            elif module and name in module.names:
+                waiting.append((module.names[name], depth))
+        return self
+
+
+def all_modules():
+    """The files of definitions and of lemmas, by the path that names them."""
+    return {".".join(("Rattle", path.parts[1], *path.parts[2:-1], path.stem)): Module(read(path), path)
+            for folder in ("specs", "proofs") for path in below(folder, ".antt")}
+
+
+def below_the_contracts(modules, stops=lambda module: False):
+    """What the contracts of the program lead to."""
+    walk = Below(modules, stops)
+    return walk.go([it for _, clauses, start in contracts() for it in start.named("", clauses)])

@@ -27,7 +27,8 @@ import sys
 
 TOP = pathlib.Path(__file__).resolve().parent.parent
 sys.path.insert(0, str(TOP / ".ci"))
-from definitions import IMPORT, below, below_the_clause, read, uncommented  # noqa: E402
+from definitions import IMPORT, all_modules, below, below_the_contracts, read, uncommented  # noqa: E402
+import headline  # noqa: E402
 
 WINDOW = 12
 LEAST_DIFFERENT = 4
@@ -88,7 +89,8 @@ def main():
     lines = [line for path in files for line in read(path).splitlines()]
     imports = sum(bool(IMPORT.match(line)) for line in lines)
     pieces = repeated_pieces()
-    found, types = below_the_clause()
+    walk = below_the_contracts(all_modules())
+    found, types = walk.found, walk.types
     crates = {path.split(".")[1] for path, _ in found}
 
     def count(pattern, paths):
@@ -100,8 +102,10 @@ def main():
     print(f"{imports} lines that import, {imports / len(lines):.1%} of all")
     print(len(lines), "lines of the crates")
     size = sum(len(module.made[name]) for (_, name), (module, _) in found.items())
-    print(len(found), "definitions below the clause of tool, with", size, "lines in",
+    print(len(found), "definitions below the contract of run_program, with", size, "lines in",
           len({path for path, _ in found}), "files of", len(crates), "crates;", len(types), "types of code")
+    _, top, size = headline.page()
+    print(top, "definitions in the top layer of docs/HEADLINE.md, with", size, "lines")
     print(count(r"\blet _ =", code), "let _ = in code")
     for piece in pieces if asked.pairs else []:
         print(*piece)

@@ -19,6 +19,13 @@ ghost use Rattle.vms_tool.specs.Answers.{Answers};
 /// Not the headline.
 fn other() {}
 
+/// Runs the program.
+pub fn run_program<S>(src: &mut S) -> u8
+    ensures { Answers src.old result }
+{
+    tool(src)
+}
+
 /// Does what the words say.
 pub fn tool<S>(src: &mut S) -> u8
     ensures answers { Answers src.old
@@ -72,19 +79,28 @@ pub enum Kinds {
 }
 """,
 }
+LEAVES = [("No numbers", "Nothing is here.", "vms_none/"), ("The limits", "What numbers may be.", "vms_low/Limits")]
 BODY = """\
-## The contract
+## The contracts
 
 ```rust
+/// Runs the program.
+pub fn run_program<S>(src: &mut S) -> u8
+    ensures { Answers src.old result }
+
 /// Does what the words say.
 pub fn tool<S>(src: &mut S) -> u8
     ensures answers { Answers src.old
         result }
 ```
 
-## `vms_tool`
+## The top layer
 
-### `specs/Answers.antt`
+It ends at these subjects:
+
+- [The limits](#appendix-the-limits): What numbers may be. By `most`.
+
+### `vms_tool/specs/Answers.antt`
 
 ```antt
 -- what a status says
@@ -97,9 +113,21 @@ abbrev pub Below : Kind → ℕ → Type 0
 Below kind s = Unit {0}
 ```
 
-## `vms_low`
+### Types of the code of `vms_low`
 
-### `specs/Limits.antt`
+```rust
+/// A kind.
+#[derive(Clone, Copy)]
+pub enum Kind {
+    Plain,
+}
+```
+
+## Appendix: The limits
+
+What numbers may be.
+
+### `vms_low/specs/Limits.antt`
 
 ```antt
 -- about the numbers
@@ -111,16 +139,6 @@ module _ (n : ℕ)
 
   abbrev pub least : ℕ
   least = n
-```
-
-### Types of its code
-
-```rust
-/// A kind.
-#[derive(Clone, Copy)]
-pub enum Kind {
-    Plain,
-}
 ```
 """
 
@@ -143,7 +161,8 @@ class HeadlineTest(unittest.TestCase):
         """The status and what was said."""
         said = io.StringIO()
         with (mock.patch("sys.argv", ["headline.py", *words]), redirect_stdout(said),
-              mock.patch.object(headline, "__file__", str(self.top / ".ci" / "headline.py"))):
+              mock.patch.object(headline, "__file__", str(self.top / ".ci" / "headline.py")),
+              mock.patch.object(headline, "LEAVES", LEAVES)):
             return headline.main(), said.getvalue()
 
     def page(self):
@@ -162,6 +181,22 @@ class HeadlineTest(unittest.TestCase):
         self.assertEqual((status, "'    Other,' is to stand there" in said), (1, True), said)
         self.call()
         self.assertEqual(self.call("--check"), (0, ""))
+
+    def test_what_no_leaf_has_stands_in_the_first_that_leads_to_it(self):
+        self.file("crates/vms_low/specs/Limits.antt",
+                  FILES["crates/vms_low/specs/Limits.antt"].replace("use Rattle.std", "use Rattle.vms_low.specs.Least.{first}\n"
+                                                                    "use Rattle.std").replace("least = n", "least = first"))
+        self.file("crates/vms_low/specs/Least.antt", "-- the first number\nabbrev pub first : ℕ\nfirst = 0\n")
+        self.assertEqual(self.call(), (0, ""))
+        before, _, appendix = self.page().partition("## Appendix: The limits\n")
+        self.assertNotIn("the first number", before)
+        self.assertIn("### `vms_low/specs/Least.antt`\n\n```antt\n-- the first number\n", appendix)
+
+    def test_a_large_top_layer(self):
+        with mock.patch.object(headline, "MOST_DEFINITIONS", 1):
+            self.assertEqual(self.call(), (1, "the top layer has 2 definitions and 5 lines, where 1 and 1600 are the most\n"))
+        with mock.patch.object(headline, "MOST_LINES", 4):
+            self.assertEqual(self.call()[0], 1)
 
     def test_wide_lines(self):
         words = "word " * 30
