@@ -17,7 +17,11 @@ AreMadeWith ReadFault taken at_end made = AreFirstPhases (lines_taken taken) mad
 AreMadeWith _ taken at_end made = AreFirstTaken taken at_end made
 
 -- what a status says: what was taken and written, which is the output of `groups` with these phases, which phases these
--- are, and that the texts of the lines were written in the order of the lines
+-- are, and that the texts of the lines were written in the order of the lines.
+-- For every trace of groups, each phase of `groups` is one legal history of its lanes' lines. At every moment of it
+-- each change is counted once: the value of a group, what is pending in its subtree and what callers carry there add up
+-- to what the phase began with and all changes of the subtree since. Every value that a line prints is that history's,
+-- and every total that a report prints is the plain sum.
 pub record SaysGroups (made : List PastGroupPhase) (status : Status) (taken written : List ℕ) (at_end : Type 0)
     : Type 0 where
   pub says : SaysPhased (waiting groups_texts) shown_by_groups made status taken written at_end

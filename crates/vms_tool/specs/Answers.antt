@@ -61,7 +61,12 @@ SaysOf (Some Groups) made status taken written at_end =
 SaysOf None made status taken written at_end = (made ≡ no_phases) × (taken ≡ []) × ShownAs status written
 
 -- what the program did under these words: the phases that it made on threads are appended to the histories that stood,
--- and its status says of them what was taken of the source, what was written to the sink, and which calls failed
+-- and its status says of them what was taken of the source, what was written to the sink, and which calls failed.
+-- For every trace, each phase of `run` is, in each table, one legal history of its lanes' lines. At every moment of it
+-- each global value, all that CPUs hold and all that callers carry add up to the base and the accepted changes. A
+-- global value alone is off by at most the thresholds used last, or for a percpu counter a batch for each CPU that is
+-- present, and the sizes of what callers carry. Every answer that is printed is that history's, and one on page or
+-- percpu counters tells what was true at moments of it. Every total that `report totals` prints is the plain sum.
 pub record AnswersUnder {S K : Type 0} (words : List (List ℕ)) (old new : Histories)
     (left : S → Option (List ℕ)) (read_faults : S → ℕ) (held : K → Option (List ℕ)) (write_faults : K → ℕ)
     (src src' : S) (out out' : K) (status : Status) : Type 0 where
