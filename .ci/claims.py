@@ -1,16 +1,26 @@
 #!/usr/bin/env python3
 """Looks for what documents name: claims.py DOCUMENT.., at the top of the repository.
 
-Of names there are two forms, each in code spans:
+Of names there are three forms, each in code spans:
 
   `CRATE::FUNCTION` or `CRATE::NAME::FUNCTION`, (`CLAUSE`, ..)   a function, of the type or trait NAME, with clauses
   `CRATE/specs/FILE.antt` (`WORD`, ..)                           a file, with what it defines
   `WORD`, .. of `HOME`                                           what a file or a crate defines
 
-In the README of a crate, `crates/CRATE/README.md`, the crate's own names stand without `CRATE::` and `CRATE/`, and
-every other span that is one word is looked up too: it is something that the crate defines, a crate or a library, or a
-word that docs/FORMATS.md has in a span or a block. A block ```rust there is an excerpt of the file that the paragraph
-above it names: its lines stand there one after another, where a line `...` stands for any that are left out.
+A function in the first form is cited for its contract. Where that has several clauses, those that carry the sentence
+stand beside the function; a sentence that needs all of them lists all of them. A function that is mentioned, and not
+cited, has the third form.
+
+In the README of a crate, `crates/CRATE/README.md`, the crate's own names stand without `CRATE::` and `CRATE/`. Its
+functions are cited there where a line of a promise begins with "By", up to the end of the promise, and mentioned
+elsewhere. Every other span that is one word is looked up too: it is something that the crate defines, a crate or a
+library, or a word that docs/FORMATS.md has in a span or a block. A block ```rust there is an excerpt of the file that
+the paragraph above it names: its lines stand there one after another, where a line `...` stands for any that are left
+out.
+
+A paragraph that begins with `>` is a quotation. It has the words of a comment of the first file that the paragraph
+below it names, whatever the breaks of the lines. The mark stands before each of its lines, and elsewhere in it only in
+code spans.
 """
 import functools
 import pathlib
@@ -23,9 +33,14 @@ FUNCTION_NAMED = re.compile(r"`((?:\w+::)+\w+|\w+)`" + CLAUSES)
 FILE_NAMED = re.compile(r"`((?:(?:vms_\w+|vozhkell)/)?(?:src|specs|proofs|must-fail)/[\w/.-]+)`" + CLAUSES)
 OF_HOME = re.compile(r"((?:`[^`\s]+`(?:,\s+|,?\s+and\s+|\s+))+)of\s+`([^`\s]+)`")
 CRATE = re.compile(r"vms_\w+|vozhkell")
+OTHERS = re.compile(r"(?:vms_\w+|vozhkell)::")
 HEAD = re.compile(r"^(?:pub )?(?:impl\b.*?\bfor\s+|impl(?:<.*?>)?\s+|trait\s+|ghost trait\s+)(\w+)")
-FUNCTION = re.compile(r"\s*(?:pub(?:\(crate\))? )?(?:const )?fn (\w+)")
-CLAUSE = re.compile(r"\bensures (\w+) \{")
+FUNCTION = re.compile(r"( *)(?:pub(?:\(crate\))? )?(?:const )?fn (\w+)")
+CLAUSE = re.compile(r"( *)ensures (?:(\w+) )?\{")
+BY = re.compile(r"^  By (.*?)(?=^- |^\S|^$)", re.M | re.S)
+QUOTATION = re.compile(r"((?:^>.*\n)(?:^.+\n)*)\n*((?:^.+\n?)*)", re.M)
+COMMENT = re.compile(r"(?:^ *(?:--|//[/!]?) ?.*\n)+", re.M)
+COMMENT_MARK = re.compile(r"^ *(?:--|//[/!]?) ?", re.M)
 MADE_IN_CODE = re.compile(r"\b(?:fn|struct|enum|trait|const|static|type|mod|ensures|requires) (\w+)|"
                           r"^\s+(?:pub(?:\(crate\))? |ghost )*(\w+):|^\s+([A-Z]\w*)\b")
 MADE_IN_SPECS = re.compile(r"^\s*(?:(?:pub|abbrev|record|data|unfoldable|ruleset) )*([^\s:(){}]+)(?:\s.*)?\s:(?:\s|$)")
@@ -49,21 +64,23 @@ def libraries():
 
 @functools.cache
 def functions_of(crate):
-    """For each function of a crate, by its owner (or "") and its name, the names of its clauses."""
+    """For each function of a crate, by its owner (or "") and its name, the names of its clauses, "" for none."""
     found = {}
     for file in sources(crate, "rt"):
-        owner, current = "", None
+        owner, current, within = "", set(), ""
         for line in text_of(file).splitlines():
             head = HEAD.match(line)
             if head:
-                owner, current = head.group(1), None
+                owner = head.group(1)
             elif line.startswith("}"):
-                owner, current = "", None
+                owner = ""
             function = FUNCTION.match(line.split("//")[0])
             if function:
-                current = found.setdefault((owner, function.group(1)), set())
-            if current is not None:
-                current.update(CLAUSE.findall(line))
+                current = found.setdefault((owner, function.group(2)), set())
+                within = function.group(1) + "    "
+            clause = CLAUSE.match(line)
+            if clause and clause.group(1) == within:
+                current.add(clause.group(2) or "")
     return found
 
 
@@ -95,6 +112,10 @@ def words_in(spans):
     return SPAN.findall(spans or "")
 
 
+def on_one_line(text):
+    return " ".join(text.split())
+
+
 class Reader:
     """The names of one document, and what is wrong with them."""
 
@@ -119,21 +140,53 @@ class Reader:
             return pathlib.Path(named)
         return None
 
+    def home_of(self, named):
+        """The crate of a function that a span names, or none, and its owner (or "") and its name."""
+        parts = named.split("::")
+        crate = parts.pop(0) if CRATE.fullmatch(parts[0]) and len(parts) > 1 else self.own
+        return crate, (parts[-2] if len(parts) > 1 else "", parts[-1])
+
     def functions(self):
         for named, clauses in FUNCTION_NAMED.findall(OF_HOME.sub("", self.prose)):
-            parts = named.split("::")
-            crate = parts.pop(0) if CRATE.fullmatch(parts[0]) and len(parts) > 1 else self.own
-            if crate is None or named == parts[-1] and not clauses:
+            crate, (owner, name) = self.home_of(named)
+            if crate is None or named == name and not clauses:
                 continue
             self.tried += 1
-            labels = functions_of(crate).get((parts[-2] if len(parts) > 1 else "", parts[-1]))
+            labels = functions_of(crate).get((owner, name))
             if labels is None:
-                if clauses or not parts[-1][0].isupper() or not set(parts) <= made_by(crate):
+                if clauses or not name[0].isupper() or not {owner, name} - {""} <= made_by(crate):
                     self.say(f"{named}: no such function")
                 continue
             for clause in words_in(clauses):
                 if clause not in labels:
                     self.say(f"{named}: no clause {clause}")
+
+    def citations(self):
+        """The functions that are cited for their contracts, each with what stands in parentheses beside it."""
+        text = FILE_NAMED.sub("", OF_HOME.sub("", self.prose))
+        promises = " ".join(BY.findall(text)) if self.own else ""
+        return [(named, clauses) for named, clauses in FUNCTION_NAMED.findall(text) if OTHERS.match(named)] + [
+            (named, clauses) for named, clauses in FUNCTION_NAMED.findall(promises) if not OTHERS.match(named)]
+
+    def clauses_beside(self):
+        for named, clauses in self.citations():
+            crate, function = self.home_of(named)
+            labels = functions_of(crate).get(function, set())
+            if len(labels) > 1 and not clauses:
+                self.say(f"{named}: which of its clauses: {', '.join(sorted(labels))}")
+
+    def quotations(self):
+        for quotation, below in QUOTATION.findall(self.prose):
+            self.tried += 1
+            lines = quotation.splitlines()
+            words = on_one_line(" ".join(line.removeprefix(">") for line in lines))
+            if any(not line.startswith("> ") for line in lines) or ">" in SPAN.sub("", words):
+                self.say(f"a mark is missing or stray in the quotation {words[:40]}..")
+            named = FILE_NAMED.search(below)
+            path = self.path(named.group(1)) if named else None
+            comments = COMMENT.findall(text_of(path)) if path else []
+            if not any(words in on_one_line(COMMENT_MARK.sub("", one)) for one in comments):
+                self.say(f"no comment of {path or 'a file that stands below it'} has the words {words[:40]}..")
 
     def files(self):
         for named, words in FILE_NAMED.findall(self.prose):
@@ -198,6 +251,8 @@ class Reader:
         if not self.text:
             self.say("no such document")
         self.functions()
+        self.clauses_beside()
+        self.quotations()
         self.files()
         self.of_homes()
         if self.own:

@@ -13,13 +13,11 @@ import re
 import sys
 import textwrap
 
-from claims import functions_of
+from claims import BY, FILE_NAMED, FUNCTION_NAMED, OF_HOME, functions_of
 
 WIDTH = 120
 SECTIONS = ["Promises", "Tested", "Trusted and let through", "For callers"]
 BEGIN, END = "<!-- made by .ci/from_crates.py -->", "<!-- end of what .ci/from_crates.py makes -->"
-BY = re.compile(r"^  By (.*?)(?=^- |^\S|^$)", re.M | re.S)
-NAME = re.compile(r"`((?:\w+::)*\w+)`")
 
 
 def wrapped(text, first="", other=""):
@@ -62,9 +60,8 @@ class Readme:
 
     def carriers(self):
         """The crate's functions that carry its promises, in alphabetical order."""
-        found = set()
-        for by in BY.findall(self.sections.get("Promises", "")):
-            found.update(NAME.findall(by))
+        promises = FILE_NAMED.sub("", OF_HOME.sub("", self.sections.get("Promises", "")))
+        found = {named for by in BY.findall(promises) for named, clauses in FUNCTION_NAMED.findall(by)}
         own = {"::".join(filter(None, named)) for named in functions_of(self.crate)}
         return sorted(found & own, key=str.lower)
 

@@ -18,8 +18,9 @@ What stands below.
 
 ## Promises
 
-- A number is small, and one that is stored stays so.
-  By `small` (`value`), `Row::get`; `specs/Numbers.antt` (`IsSmall`), `least` of `specs/Numbers.antt`.
+- A number is small, and one that is stored by `Row::set` stays so.
+  By `small` (`value`), `Row::get`, `Row::set` (`kept`, `full`);
+  `specs/Numbers.antt` (`IsSmall`), `least` of `specs/Numbers.antt`.
 
 ## For callers
 
@@ -35,7 +36,18 @@ FILES = {
     "crates.txt": "# low: numbers\nvms_low: itoa\n",
     "docs/FORMATS.md": "A line `mod PLACE` changes.\n",
     "docs/MAP.md": f"# Crates\n\n{BEGIN}\n{END}\n",
-    "docs/PROVED.md": f"# Proved\n\n`vms_low::small` (`value`)\n\n{BEGIN}\n{END}\n",
+    "docs/PROVED.md": f"""\
+# Proved
+
+> Every number is small,
+> and `7 > 6`.
+
+That is of `vms_low/specs/Numbers.antt`: `vms_low::small` (`value`), `vms_low::Row::set` (`kept`, `full`). One that is
+mentioned is `set` of `vms_low`.
+
+{BEGIN}
+{END}
+""",
     "crates/vms_low/README.md": PROMISES,
     "crates/vms_low/src/numbers.rt": """\
 pub fn small() -> u8
@@ -44,16 +56,31 @@ pub fn small() -> u8
     7
 }
 
+pub fn kept() -> bool
+{
+    true
+}
+
 impl Row {
     pub fn get(&self) -> u8
         ensures { result ≡ self.now }
     {
         self.number
     }
+
+    pub fn set(&mut self, number: u8)
+        ensures kept { self.new ≡ number }
+        ensures full { IsFull self.new }
+    {
+        filled(self, || -> u8
+            ensures closed { result ≡ number }
+        { number })
+    }
 }
 """,
     "crates/vms_low/specs/Numbers.antt": """\
--- numbers
+-- every definition of numbers. Every number
+-- is small, and `7 > 6`.
 abbrev pub IsSmall : ℕ → Type 0
 IsSmall n = n ≤ 7
 
@@ -95,8 +122,29 @@ class Refusals(unittest.TestCase):
     def test_functions_and_clauses(self):
         self.refuses("`small` (`value`)", "`tiny` (`value`)", "tiny: no such function")
         self.refuses("`small` (`value`)", "`small` (`bound`)", "small: no clause bound")
-        self.refuses("`Row::get`", "`Row::set`", "Row::set: no such function")
+        self.refuses("`Row::get`", "`Row::put`", "Row::put: no such function")
         self.refuses("`vms_low::small`", "`vms_low::tiny`", "vms_low::tiny: no such function", "docs/PROVED.md")
+        self.refuses("(`kept`, `full`);", "(`kept`, `closed`);", "Row::set: no clause closed")
+
+    def test_citations_name_one_of_several_clauses(self):
+        which = "which of its clauses: full, kept"
+        self.refuses("`Row::set` (`kept`, `full`)", "`Row::set`", f"{README}: Row::set: {which}")
+        self.refuses("`vms_low::Row::set` (`kept`, `full`)", "`vms_low::Row::set`", f"vms_low::Row::set: {which}",
+                     "docs/PROVED.md")
+
+    def test_functions_with_one_clause_stand_alone(self):
+        Path(README).write_text(PROMISES.replace("`small` (`value`)", "`small`"), encoding="utf-8")
+        self.assertEqual(self.said(claims.main, README)[0], 0)
+
+    def test_quotations(self):
+        proved = "docs/PROVED.md"
+        stray = "a mark is missing or stray in the quotation"
+        self.refuses("> and `7 > 6`.", "and `7 > 6`.", stray, proved)
+        self.refuses("> Every number is", "> Every > number is", stray, proved)
+        self.refuses("> Every number is small", "> Every number is large",
+                     "no comment of crates/vms_low/specs/Numbers.antt has the words Every number is large", proved)
+        self.refuses("That is of `vms_low/specs/Numbers.antt`:", "So say",
+                     "no comment of a file that stands below it has the words Every number", proved)
 
     def test_definitions_and_files(self):
         self.refuses("(`IsSmall`)", "(`IsTiny`)", "specs/Numbers.antt: defines no IsTiny")
@@ -107,7 +155,7 @@ class Refusals(unittest.TestCase):
         self.refuses(named, "`most` of `specs/Numbers.antt`", "specs/Numbers.antt: defines no most")
         self.refuses(named, "`least` of `specs/Words.antt`", "specs/Words.antt: no such file")
         self.refuses(named, "`most` of `Numbers.antt`", "Numbers.antt: defines no most")
-        self.refuses("`vms_low::small` (`value`)", "`most` of `vms_low`", "vms_low: defines no most", "docs/PROVED.md")
+        self.refuses("`set` of `vms_low`", "`most` of `vms_low`", "vms_low: defines no most", "docs/PROVED.md")
 
     def test_single_words(self):
         self.refuses("What stands below.", "What `medium` is.", "medium: the crate defines no such name")
@@ -124,7 +172,7 @@ class Refusals(unittest.TestCase):
         self.assertEqual(self.said(from_crates.main, "--check")[0], 0)
         link = "[`vms_low`](../crates/vms_low/README.md)"
         self.assertIn(f"{link}: What stands below.", Path("docs/MAP.md").read_text(encoding="utf-8"))
-        self.assertIn(f"{link}: `Row::get`, `small`.", Path("docs/PROVED.md").read_text(encoding="utf-8"))
+        self.assertIn(f"{link}: `Row::get`, `Row::set`, `small`.", Path("docs/PROVED.md").read_text(encoding="utf-8"))
         Path(README).write_text(PROMISES.replace("What stands below.", "What stands at the bottom."), encoding="utf-8")
         status, out = self.said(from_crates.main, "--check")
         self.assertEqual((status, "docs/MAP.md is stale" in out), (1, True), out)
