@@ -1,7 +1,8 @@
 //! The job of `vozhkell check` in plain Rust, written by hand. bench/run.sh measures the proved program beside it.
 //!
-//! It writes what the proved program writes, and ends with its statuses: 0, 1 for other words, 2 for a refused header,
-//! 3 where a line was refused, 4 for a failed read and 5 for a failed write, 7 past a limit.
+//! It writes what the proved program writes, but for the usage line, which has its own word alone. It ends with the
+//! statuses of the proved one: 0, 1 for other words, 2 for a refused header, 3 where a line was refused, 4 for a failed
+//! read and 5 for a failed write, and 7 past a limit.
 
 mod commands;
 mod names;

@@ -380,7 +380,7 @@ fn answer(
     out: &mut Output,
 ) -> io::Result<u8> {
     if std::env::args_os().skip(1).ne([word]) {
-        writeln!(out.held, "usage: check | replay | run | gen SEED CPUS LINES | groups")?;
+        writeln!(out.held, "usage: {word}")?;
         return Ok(1);
     }
     Ok(match command(&mut Input::make(), out) {

@@ -28,6 +28,7 @@ from large_rows import EVENTS, NODE, ZONE
 TOP = os.path.dirname(os.path.dirname(os.path.abspath(__file__)))
 DONE, WORDS, HEADER, REFUSED, READ, WRITE, MEMORY = range(7)
 PANIC = 101
+PROVED_USAGE = b"usage: check | replay | run | gen SEED CPUS LINES | groups\n"
 # What `gen 1 1 1` prints: its one line adds 19 pages to an item.
 SMALLEST_MADE = b"line 8: report totals\n" + b"".join(b"%s %d\n" % (counter.encode(), {
     "0 Normal nr_free_pages": 1_000_000, "0 Normal nr_zone_unevictable": 19}.get(counter, 0)) for counter in [
@@ -322,7 +323,7 @@ class Trials:
         return self.readers + self.made + [
             self.call("replay", b"vmtrace 3\n", HEADER, b"line 1: BadMagic\n"),
             self.call("groups", b"vmgroups 3\n", HEADER, b"line 1: BadMagic\n"),
-            self.call("replay none", b"", WORDS, b"usage: check | replay | run | gen SEED CPUS LINES | groups\n"),
+            self.call("replay none", b"", WORDS, PROVED_USAGE if "gen" in self.programs else b"usage: replay\n"),
         ]
 
     def full_device(self):

@@ -1,7 +1,8 @@
 //! The job of `vozhkell replay` in plain Rust, written by hand. bench/run.sh measures the proved program beside it.
 //!
-//! It writes what the proved program writes, and ends with its statuses: 0, 1 for other words, 2 for a refused header,
-//! 3 where a line was refused, 4 for a failed read and 5 for a failed write, and 7 past a limit.
+//! It writes what the proved program writes, but for the usage line, which has its own word alone. It ends with the
+//! statuses of the proved one: 0, 1 for other words, 2 for a refused header, 3 where a line was refused, 4 for a failed
+//! read and 5 for a failed write, and 7 past a limit.
 //!
 //! It makes each line as it reads it. Where the environment has KEEP_LINES it keeps the lines of a phase until the phase
 //! ends, as the proved program does and as a program must that runs a phase's lanes on threads.

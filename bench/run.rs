@@ -1,7 +1,8 @@
 //! The job of `vozhkell run` in plain Rust, written by hand. bench/run.sh measures the proved program beside it.
 //!
-//! It writes what the proved program may write, and ends with its statuses: 0, 1 for other words, 2 for a refused
-//! header, 3 where a line was refused, 4 for a failed read and 5 for a failed write, and 7 past a limit.
+//! It writes what the proved program may write, but for the usage line, which has its own word alone. It ends with the
+//! statuses of the proved one: 0, 1 for other words, 2 for a refused header, 3 where a line was refused, 4 for a failed
+//! read and 5 for a failed write, and 7 past a limit.
 //!
 //! bench/lanes.rs says how it makes a phase on threads, and what STANDING_THREADS in its environment changes.
 
