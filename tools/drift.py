@@ -11,7 +11,7 @@ The SVG, or with --data columns for gnuplot, goes to standard output:
   probe.py TRACE '0 Normal nr_free_pages' 5 > probed.vmtrace
   vozhkell replay < probed.vmtrace > probed.out
   drift.py probed.vmtrace probed.out > drift.svg"""
-import argparse
+import interrupts  # first, for what it does
 import re
 import sys
 from dataclasses import dataclass
@@ -143,14 +143,15 @@ def number_of(word):
 def read_answers(name):
     """The numbers that the program printed, by line of the trace, and the lines that it refused."""
     answers, refused = {}, set()
-    for line in vmtrace.lines_of(name):
+    for number, line in enumerate(vmtrace.each_line(name), 1):
         try:
             if found := ANSWER.match(line):
                 answers[number_of(found[1])] = number_of(found[3])
             elif found := REFUSED.match(line):
                 refused.add(number_of(found[1]))
         except ValueError:
-            raise vmtrace.BadInput(f"{called(name)}: the program prints no line '{vmtrace.shown(line)}'") from None
+            raise vmtrace.BadInput(f"{called(name)}:{number}: the program prints no line "
+                                   f"'{vmtrace.shown(line)}'") from None
     return answers, refused
 
 
@@ -310,7 +311,7 @@ def legend():
 
 
 def parse(arguments):
-    parser = argparse.ArgumentParser(description=__doc__, formatter_class=argparse.RawDescriptionHelpFormatter)
+    parser = vmtrace.Parser(__doc__)
     parser.add_argument("trace", metavar="TRACE", help="the probed trace")
     parser.add_argument("output", metavar="OUTPUT", help="what `vozhkell replay` printed of it, - for standard input")
     parser.add_argument("--counter", help="where the trace reads several: '0 Normal nr_free_pages'")
@@ -323,11 +324,11 @@ def chosen_counter(lines, header, options):
     if not readings:
         raise vmtrace.BadInput(f"{called(options.trace)}: no 'val' or 'snap' line; probe.py puts them in")
     if options.counter is None and len(readings) > 1:
-        several = ", ".join(readings)
+        several = vmtrace.shown(", ".join(readings))
         raise vmtrace.BadInput(f"{called(options.trace)}: reads several counters, name one with --counter: {several}")
     counter = vmtrace.counter_of(options.counter or readings[0])
     if str(counter) not in readings or not header.has(counter):
-        raise vmtrace.BadInput(f"{called(options.trace)}: doesn't read the counter '{counter}'")
+        raise vmtrace.BadInput(f"{called(options.trace)}: doesn't read the counter '{vmtrace.shown(str(counter))}'")
     return counter
 
 

@@ -14,7 +14,7 @@ the one that spans the page. Each block is a change of its own; Linux 6.1 subtra
 in one change. No event tells of a page that goes straight to its zone because its per-CPU list is busy.
 
 Notes on what was used and left out go to standard error."""
-import argparse
+import interrupts  # first, for what it does
 import io
 import itertools
 import math
@@ -31,8 +31,8 @@ from dataclasses import dataclass, field
 from pathlib import Path
 
 import vmtrace
-from procinfo import FIELDS, Zone, check_fields, number_of, read_vmstat, read_zoneinfo
-from vmtrace import BadInput, seconds
+from procinfo import FREE, Zone, number_of, read_vmstat, read_zoneinfo
+from vmtrace import BadInput, number_in, seconds
 
 EVENT = re.compile(r".*\[(\d+)\]\s+(?:\S+\s+)?(\d+(?:\.\d+)?):\s+(?:\w+:)?(\w+):(.*)")
 ARGUMENT = re.compile(r"\b(pfn|order)=(0x[0-9a-f]+|\d+)\b")
@@ -40,15 +40,18 @@ LOST = re.compile(r"CPU:?\s*\d+ \[(?:LOST )?(?:(\d+) )?EVENTS(?: DROPPED)?\]")
 WRITTEN = re.compile(r"# entries-in-buffer/entries-written: (\d+)/(\d+)")
 TAKES, GIVES, FREES = "mm_page_alloc_zone_locked", "mm_page_pcpu_drain", "mm_page_free"
 COSTLY_ORDER, HUGE_ORDER, LAST_ORDER = 3, 9, 20
+ZONEINFO, VMSTAT = "/proc/zoneinfo", "/proc/vmstat"
 TRACEFS = (Path("/sys/kernel/tracing"), Path("/sys/kernel/debug/tracing"))
 BUFFER_KB = "8192"
+LIMITS = {"managed": vmtrace.MAX_MANAGED, **dict.fromkeys(("min", "low", "high"), vmtrace.MAX_MARK)}
 REPORTS = ("vmstat", "zoneinfo", "totals", "counters")
 
 
 @dataclass
 class Machine:
-    """The zones of a machine that a trace has, its nodes' counters in pages, and its online CPUs."""
+    """The zones of a machine that a trace has, its nodes' counters, its online CPUs, and the text that describes it."""
 
+    name: str
     zones: list[Zone]
     nodes: dict[int, dict[str, int]]
     cpus: set[int]
@@ -78,25 +81,31 @@ class Account:
     cut: str = ""
 
 
-def read_machine(lines, name):
-    """The machine that the lines of /proc/zoneinfo describe."""
-    info = read_zoneinfo(lines, name)
-    kept = [zone for zone in info.zones if zone.pages.get("managed") and zone.kind in vmtrace.KINDS]
-    machine = Machine(kept, info.nodes, info.cpus, [zone for zone in info.zones if zone not in kept])
-    check_machine(machine, name)
+def read_machine(text, name):
+    """The machine that the text of /proc/zoneinfo describes."""
+    info = read_zoneinfo(text, name)
+    kept = [zone for zone in info.populated if zone.pages["managed"] and zone.kind in vmtrace.KINDS]
+    machine = Machine(name, kept, info.nodes, info.cpus, [zone for zone in info.zones if zone not in kept])
+    check_machine(machine)
     return machine
 
 
-def check_machine(machine, name):
-    """The machine is one that a trace can have, and tells all of its zones that is needed."""
-    if not machine.zones or not machine.cpus:
-        raise BadInput(f"{name}: not the text of /proc/zoneinfo: no zone with managed pages, or no CPU")
-    check_fields(machine.zones, FIELDS + ("start_pfn",), name)
+def check_machine(machine):
+    """The machine is one that a trace can have."""
+    if not machine.zones:
+        raise BadInput(f"{machine.name}: no zone of a kind that a trace has, {', '.join(vmtrace.KINDS)}, has managed "
+                       "pages")
     most = vmtrace.MAX_CPUS[2]
     if max(machine.cpus) >= most:
-        raise BadInput(f"{name}: CPU {max(machine.cpus)} is online, and a trace has at most {most} CPUs")
+        raise BadInput(f"{machine.name}: CPU {max(machine.cpus)} is online, and a trace has at most {most} CPUs")
     if len(machine.zones) > vmtrace.MAX_ZONES or max(zone.node for zone in machine.zones) > vmtrace.MAX_NODE:
-        raise BadInput(f"{name}: a trace has at most {vmtrace.MAX_ZONES} zones, of nodes 0 to {vmtrace.MAX_NODE}")
+        raise BadInput(f"{machine.name}: a trace has at most {vmtrace.MAX_ZONES} zones, of nodes 0 to "
+                       f"{vmtrace.MAX_NODE}")
+    for zone in machine.zones:
+        for word, most in LIMITS.items():
+            if zone.pages[word] > most:
+                raise BadInput(f"{machine.name}:{zone.line}: zone {zone} has {zone.pages[word]} as '{word}', and in a "
+                               f"trace at most {most}")
 
 
 def header_lines(machine, watermarks, added):
@@ -110,18 +119,21 @@ def header_lines(machine, watermarks, added):
         marks = "" if watermarks else " {min} {low} {high}".format(**zone.pages)
         yield f"zone {zone} {zone.pages['managed']}{marks}"
     for zone in machine.zones:
-        yield from base_lines(zone, vmtrace.ZONE_ITEMS, zone.items, {"nr_free_pages": added[str(zone)]})
+        values = {**zone.items, FREE: zone.items[FREE] + added[str(zone)]}
+        yield from base_lines(zone, vmtrace.ZONE_ITEMS, values, f"{machine.name}:{zone.line}")
     for node in sorted({zone.node for zone in machine.zones}):
-        yield from base_lines(f"{node} node", vmtrace.NODE_ITEMS, machine.nodes.get(node, {}), {})
+        yield from base_lines(f"{node} node", vmtrace.NODE_ITEMS, machine.nodes[node], machine.name)
     yield "go"
     for cpu in sorted(set(range(cpus)) - machine.cpus):
         yield f"offline {cpu}"
         yield f"k dead {cpu}"
 
 
-def base_lines(place, items, values, added):
+def base_lines(place, items, values, where):
     for item in items:
-        value = values.get(item, 0) + added.get(item, 0)
+        value = values.get(item, 0)
+        if abs(value) > vmtrace.MAX_BASE:
+            raise BadInput(f"{where}: {place} {item} begins with {value}, and a trace has at most {vmtrace.MAX_BASE}")
         if value:
             yield f"base {place} {item} {value}"
 
@@ -142,7 +154,8 @@ def events_of(lines, name, account):
         elif line.strip() and not line.startswith("#"):
             other = True
     if other and first is None:
-        raise BadInput(f"{name}: no line of it is an event of the kernel's tracing buffer")
+        raise BadInput(f"{name}: no line of it is an event of the kernel's tracing buffer, such as "
+                       f"'task-1 [000] d..3. 1.5: {TAKES}: pfn=0x1000 order=0'")
 
 
 def time_of(word, name, line):
@@ -158,9 +171,10 @@ def pages_of(event, name):
     for word in ("pfn", "order"):
         if word not in arguments:
             raise BadInput(f"{name}:{event.line}: {event.name} has no number '{word}='")
-    pfn, order = (number_of(arguments[word], name, event.line) for word in ("pfn", "order"))
+    pfn, order = (number_of(arguments[word], name, event.line, 16 if arguments[word].startswith("0x") else 10)
+                  for word in ("pfn", "order"))
     if order > LAST_ORDER:
-        raise BadInput(f"{name}:{event.line}: the order {order} is too large")
+        raise BadInput(f"{name}:{event.line}: the order {order} is too large: at most {LAST_ORDER}")
     if event.name == FREES and (order <= COSTLY_ORDER or order == HUGE_ORDER):
         return pfn, 0
     return pfn, -(1 << order) if event.name == TAKES else 1 << order
@@ -245,16 +259,19 @@ def write_trace(paper, events, machine, name, options, account):
     write_changes(paper, events, machine, name, options.skip + options.seconds, account)
 
 
-def free_pages(lines, name):
-    """The value of nr_free_pages in the lines of /proc/vmstat."""
-    return read_vmstat(lines, name)["nr_free_pages"]
+def free_pages(text, name):
+    """The value of nr_free_pages in the text of /proc/vmstat."""
+    return read_vmstat(text, name)[FREE]
 
 
 def notes(machine, account, options, counted):
     """What is to be said of the trace. `counted` is by how much /proc/vmstat changed, None where it isn't known."""
     for zone in machine.left_out:
-        known = zone.kind in vmtrace.KINDS or not zone.pages.get("managed")
+        known = zone.kind in vmtrace.KINDS or not zone.pages["managed"]
         yield f"zone {zone} left out: {'no managed pages' if known else 'a trace has no such kind'}"
+    if options.live is not None and os.sysconf("SC_PAGE_SIZE") != vmtrace.PAGE_BYTES:
+        yield (f"pages have {os.sysconf('SC_PAGE_SIZE')} bytes here, and {vmtrace.PAGE_BYTES} in a trace: the program "
+               "computes other thresholds")
     if options.watermarks:
         yield from watermark_notes(machine, options.watermarks)
     yield from event_notes(account)
@@ -300,49 +317,58 @@ def tracing_instance():
     signal.signal(signal.SIGTERM, lambda *_: sys.exit(1))
     instance.mkdir()
     try:
-        (instance / "tracing_on").write_text("0")
-        (instance / "buffer_size_kb").write_text(BUFFER_KB)
+        put(instance / "tracing_on", "0")
+        put(instance / "buffer_size_kb", BUFFER_KB)
         yield instance
     finally:
         remove(instance)
 
 
+def put(path, text):
+    """Writes a file of tracefs. The system names no file where only the write fails."""
+    try:
+        path.write_text(text)
+    except OSError as error:
+        raise BadInput(f"{path}: {error.strerror}") from None
+
+
 def remove(instance):
     """Takes an instance away, also where its events can't be switched off; where that fails it is named."""
-    with suppress(OSError):
-        (instance / "events" / "enable").write_text("0")
+    with suppress(BadInput):
+        put(instance / "events" / "enable", "0")
     try:
         instance.rmdir()
     except OSError as error:
-        print(f"from_kernel: {instance}: {error.strerror}: it is left behind; as root: rmdir {instance}",
-              file=sys.stderr)
+        vmtrace.tell(f"{instance}: {error.strerror}: it is left behind; as root: rmdir {instance}")
 
 
 def record(seconds, recording):
     """Records this machine: zoneinfo just before, the text of the events into the file, and vmstat before and after."""
     with tracing_instance() as instance:
         kmem = instance / "events" / "kmem"
-        (kmem / FREES / "filter").write_text(f"order > {COSTLY_ORDER}")
+        put(kmem / FREES / "filter", f"order > {COSTLY_ORDER}")
         for event in (TAKES, GIVES, FREES):
-            (kmem / event / "enable").write_text("1")
-        before = Path("/proc/vmstat").read_text()
-        zoneinfo = Path("/proc/zoneinfo").read_text()
-        (instance / "tracing_on").write_text("1")
+            put(kmem / event / "enable", "1")
+        before = vmtrace.text_of(VMSTAT)
+        zoneinfo = vmtrace.text_of(ZONEINFO)
+        put(instance / "tracing_on", "1")
         time.sleep(seconds)
-        (instance / "tracing_on").write_text("0")
-        after = Path("/proc/vmstat").read_text()
-        with vmtrace.open_text(str(instance / "trace")) as trace:
-            shutil.copyfileobj(trace, recording)
-    recording.seek(0)
+        put(instance / "tracing_on", "0")
+        after = vmtrace.text_of(VMSTAT)
+        keep(vmtrace.each_line(str(instance / "trace")), recording)
     return zoneinfo, before, after
 
 
-def number(text):
-    return vmtrace.within(text, 0, vmtrace.MAX_KBYTES)
+def keep(lines, recording):
+    try:
+        recording.writelines(line + "\n" for line in lines)
+        recording.seek(0)
+    except OSError as error:
+        raise BadInput(f"the recording, a file in {tempfile.gettempdir()}: {error.strerror}") from None
 
 
 def parse(arguments):
-    parser = argparse.ArgumentParser(description=__doc__, formatter_class=argparse.RawDescriptionHelpFormatter)
+    parser = vmtrace.Parser(__doc__)
     source = parser.add_mutually_exclusive_group(required=True)
     source.add_argument("--zoneinfo", metavar="FILE", help="/proc/zoneinfo, or a copy")
     source.add_argument("--live", metavar="SECONDS", type=seconds,
@@ -351,7 +377,8 @@ def parse(arguments):
                         help="the text of the tracing buffer, also as .xz or .gz; - for standard input")
     parser.add_argument("--vmstat", metavar=("BEFORE", "AFTER"), nargs=2,
                         help="/proc/vmstat before and after the events, to compare with")
-    parser.add_argument("--watermarks", metavar=("MIN_FREE_KBYTES", "SCALE"), nargs=2, type=number,
+    parser.add_argument("--watermarks", metavar=("MIN_FREE_KBYTES", "SCALE"), nargs=2,
+                        type=number_in(0, vmtrace.MAX_KBYTES),
                         help="a line from which the program computes the watermarks, in place of those of zoneinfo")
     parser.add_argument("--skip", metavar="SECONDS", type=seconds, default=0.0,
                         help="leave the first seconds of the events out, and add their changes to the base values")
@@ -374,26 +401,26 @@ def make(machine, events, name, counted, options, limits):
     write_trace(paper, events_of(events, name, account), machine, name, options, account)
     paper.end(sys.stdout)
     for note in notes(machine, account, options, counted):
-        print(f"from_kernel: {note}", file=sys.stderr)
+        vmtrace.tell(note)
 
 
 def make_live(options, limits):
     with tempfile.TemporaryFile("w+", **vmtrace.ANY_BYTES) as recording:
         zoneinfo, before, after = record(options.live, recording)
-        machine = read_machine(zoneinfo.splitlines(), "/proc/zoneinfo")
-        counted = free_pages(after.splitlines(), "/proc/vmstat") - free_pages(before.splitlines(), "/proc/vmstat")
-        make(machine, recording, "the recording", counted, options, limits)
+        machine = read_machine(zoneinfo, ZONEINFO)
+        counted = free_pages(after, VMSTAT) - free_pages(before, VMSTAT)
+        events = (line.removesuffix("\n") for line in recording)
+        make(machine, events, "the recording", counted, options, limits)
 
 
 def make_from_files(options, limits):
-    machine = read_machine(vmtrace.lines_of(options.zoneinfo), vmtrace.called(options.zoneinfo))
+    machine = read_machine(vmtrace.text_of(options.zoneinfo), vmtrace.called(options.zoneinfo))
     counted = None
     if options.vmstat:
-        before, after = (free_pages(vmtrace.lines_of(name), vmtrace.called(name)) for name in options.vmstat)
+        before, after = (free_pages(vmtrace.text_of(name), vmtrace.called(name)) for name in options.vmstat)
         counted = after - before
     name = options.events or os.devnull
-    with vmtrace.open_text(name) as events:
-        make(machine, events, vmtrace.called(name), counted, options, limits)
+    make(machine, vmtrace.each_line(name), vmtrace.called(name), counted, options, limits)
 
 
 def main(arguments, limits=vmtrace.Limits()):

@@ -2,7 +2,7 @@
 """Says how far the page counters of a machine can be off, and on which side of each watermark its free pages are.
 
 What /proc/zoneinfo and /proc/vmstat show lacks what each CPU has counted and keeps to itself, up to a threshold. Of
-each counter this prints its value, by how many pages it can be off, and between which numbers the truth is. Of each
+each counter this prints its value, by how much it can be off, and between which numbers the truth is. Of each
 watermark it says whether the zone's free pages are surely above it, surely below it, or whether that can't be told.
 Each figure names the laws that it rests on (crates/vms_core/README.md). What is assumed stands below them.
 
@@ -10,24 +10,39 @@ A watermark is compared with the free pages alone. A test of the kernel also add
 leaves out pages that the request can't use, and mostly takes the value as it is shown. Nothing is said of the next
 moment.
 
-Without --zoneinfo this machine is read. For a collector of text files:
+Without --zoneinfo this machine is read, with all CPUs that are present, online or not. Of a copy the CPUs count that it
+shows, and a threshold is 125 unless --page-size is given, since a normal one depends on the size of a page.
+
+A text that isn't whole is refused. What /proc/vmstat shows of an item, and what the zones or nodes show of it together,
+are both off by at most the figure that is printed. Where the two are further apart than twice that, they aren't numbers
+of one moment. This machine is then read again, up to ten times, with /proc/vmstat before and after /proc/zoneinfo, and
+copies are refused unless --apart allows for it.
+
+For a collector of text files:
 
   monitor.py --openmetrics > vmstat.new && mv vmstat.new vmstat.prom"""
-import argparse
+import interrupts  # first, for what it does
 import json
+import os
 import sys
 import textwrap
 import time
+from argparse import ArgumentTypeError
+from contextlib import suppress
 from dataclasses import dataclass
 
 import vmtrace
-from procinfo import check_fields, count_cpus, read_vmstat, read_zoneinfo
+from items import HUGE_PAGES, KIB, PAGES, TREE_NODES, UNITS, Unit, check_item, counts_events
+from procinfo import FREE, ZoneInfo, count_cpus, read_vmstat, read_zoneinfo
 from vmtrace import BadInput, called
 
 ZONEINFO, VMSTAT, PRESENT = "/proc/zoneinfo", "/proc/vmstat", "/sys/devices/system/cpu/present"
 MAX_CPUS = 8192
+MAX_APART = 2**48
+PAGE_SIZES = tuple(2**shift for shift in range(12, 21))
+LOOKS, BETWEEN_LOOKS = 10, 0.01
 MARKS = ("min", "low", "high")
-FREE = "nr_free_pages"
+METRIC_UNITS = {PAGES: "pages", HUGE_PAGES: "hugepages", KIB: "kibibytes", TREE_NODES: "nodes"}
 ABOVE, BELOW, UNKNOWN = "surely above", "surely below", "can't be told"
 LAWS = {
     "drift": "a counter of a zone or a node is off by at most the thresholds that the CPUs used last on it, and the "
@@ -40,15 +55,16 @@ LAWS = {
 
 @dataclass(frozen=True)
 class Figure:
-    """What the kernel shows of a counter, by how many pages it can be off, and the laws that say so."""
+    """What the kernel shows of a counter, by how much it can be off, in what it counts, and the laws that say so."""
 
     value: int
     off_by: int
     laws: tuple[str, ...]
+    unit: Unit
 
     @property
     def least(self):
-        """At least 0: no number of pages is below it, and the kernel shows 0 where a value is."""
+        """At least 0: no number is below it, and the kernel shows 0 where a value is."""
         return max(0, self.value - self.off_by)
 
     @property
@@ -71,7 +87,7 @@ class Watermark:
 
 @dataclass(frozen=True)
 class Place:
-    """A zone, or a node as a whole where the kind is `node`; how many pages of a counter a CPU may keep to itself."""
+    """A zone, or a node as a whole where the kind is `node`; how much of a counter a CPU may keep to itself."""
 
     node: int
     kind: str
@@ -104,68 +120,122 @@ class View:
         return {law: words for law, words in LAWS.items() if any(law in figure.laws for figure in figures)}
 
 
+@dataclass(frozen=True)
+class Machine:
+    """What was read: zoneinfo, the readings of vmstat, which CPUs there are, and how large a page is, 0 if not known.
+
+    `zoneinfo` and `vmstat` are the names of the files. Readings of vmstat lie before and after zoneinfo's or are one.
+    """
+
+    zoneinfo: str
+    vmstat: str
+    info: ZoneInfo
+    readings: list[dict[str, int]]
+    cpus: int
+    page_bytes: int
+
+    @property
+    def zones(self):
+        return self.info.populated
+
+    @property
+    def has_hidden_nodes(self):
+        """Whether a node has pages of devices alone: its counters are in vmstat, and zoneinfo doesn't show them."""
+        return any(zone.pages["spanned"] and zone.node not in self.info.nodes for zone in self.info.zones)
+
+
 class Thresholds:
     """The largest threshold that a CPU may have used last in each zone, over all looks of a call, and its laws.
 
     It is the largest that zoneinfo shows in the zone, or the zone's normal threshold where that is larger: under memory
-    pressure a zone that has a drift mark shows smaller ones, while a CPU still keeps what the normal one allowed.
+    pressure a zone that has a drift mark shows smaller ones, while a CPU still keeps what the normal one allowed. The
+    normal one is that of the managed pages when the kernel computed it. A balloon takes managed pages away, and never
+    present ones, so the larger of the two numbers counts.
     """
 
     def __init__(self, strict):
         self.strict = strict
         self.largest = {}
 
-    def take_in(self, zone, cpus):
-        if self.strict or not zone.thresholds:
+    def take_in(self, zone, machine):
+        if self.strict or not zone.thresholds or not machine.page_bytes:
             self.largest[str(zone)] = vmtrace.MAX_THRESHOLD, ("drift", "peaks")
         else:
             before, _ = self.of_zone(zone)
-            normal = vmtrace.normal_threshold(zone.pages["managed"], cpus)
+            pages = max(zone.pages["managed"], zone.pages["present"])
+            normal = vmtrace.normal_threshold(pages, machine.cpus, machine.page_bytes)
             self.largest[str(zone)] = max(before, normal, *zone.thresholds.values()), ("drift",)
 
     def of_zone(self, zone):
         return self.largest.get(str(zone), (0, ()))
 
-    def of_node(self, zones):
+    def of_node(self, machine, node):
         """A node has the largest threshold of its zones."""
-        return max(map(self.of_zone, zones))
+        return max(self.of_zone(zone) for zone in machine.zones if zone.node == node)
 
 
-def places_of(zones, nodes, chosen, thresholds, cpus):
+def places_of(machine, chosen, thresholds):
     """The zones in their order, and after them the nodes."""
-    for zone in zones:
+    for zone in machine.zones:
         threshold, laws = thresholds.of_zone(zone)
-        free = Figure(zone.items[FREE], cpus * threshold, laws)
+        off_by = machine.cpus * threshold
+        free = Figure(zone.items[FREE], off_by, laws, UNITS[FREE])
         marks = {mark: Watermark(zone.pages[mark], free.against(zone.pages[mark]), laws) for mark in MARKS}
-        yield Place(zone.node, zone.kind, threshold, figures_of(zone.items, chosen, cpus * threshold, laws), marks)
-    for node in sorted({zone.node for zone in zones}):
-        threshold, laws = thresholds.of_node([zone for zone in zones if zone.node == node])
-        yield Place(node, "node", threshold, figures_of(nodes.get(node, {}), chosen, cpus * threshold, laws), {})
+        yield Place(zone.node, zone.kind, threshold, figures_of(zone.items, chosen, off_by, laws), marks)
+    for node, items in sorted(machine.info.nodes.items()):
+        threshold, laws = thresholds.of_node(machine, node)
+        yield Place(node, "node", threshold, figures_of(items, chosen, machine.cpus * threshold, laws), {})
 
 
 def figures_of(items, chosen, off_by, laws):
-    return {item: Figure(value, off_by, laws) for item, value in items.items() if item in chosen}
+    return {item: Figure(value, off_by, laws, UNITS[item]) for item, value in items.items() if item in chosen}
 
 
 def system_of(items, places):
-    """The counters of all nodes that each zone has, or each node. Such a one is off by what its parts are together."""
+    """The counters of all nodes, which zones have or nodes. Such a one is off by what its parts are together."""
     for is_node in (False, True):
         parts = [place.figures for place in places if (place.kind == "node") == is_node]
-        for item in parts[0] if parts else ():
-            if item in items and all(item in part for part in parts):
-                laws = [law for law in LAWS if any(law in part[item].laws for part in parts) and law != "drift"]
-                yield item, Figure(items[item], sum(part[item].off_by for part in parts), ("system_drift", *laws))
+        for item, first in parts[0].items():
+            laws = [law for law in LAWS if any(law in part[item].laws for part in parts) and law != "drift"]
+            off_by = sum(part[item].off_by for part in parts)
+            yield item, Figure(items[item], off_by, ("system_drift", *laws), first.unit)
 
 
-def assumptions(zones, cpus, strict):
+def check_sums(machine, thresholds, apart):
+    """What zones or nodes show of an item together is what vmstat shows of it, as far as neither is off.
+
+    The truth is at most `off_by` from either number, so at one moment they are at most twice that apart.
+    """
+    zones = [(zone.items, thresholds.of_zone(zone)) for zone in machine.zones]
+    nodes = [(items, thresholds.of_node(machine, node)) for node, items in machine.info.nodes.items()]
+    for parts, is_all in ((zones, True), (nodes, not machine.has_hidden_nodes)):
+        distance = 2 * machine.cpus * sum(threshold for _, (threshold, _) in parts) + apart
+        for item in parts[0][0]:
+            if not counts_events(item):
+                check_sum(item, sum(items[item] for items, _ in parts), distance, is_all, machine)
+
+
+def check_sum(item, together, distance, is_all, machine):
+    """What parts show of an item together is near what vmstat shows of it; the parts are all, or others are hidden."""
+    least, most = (choose(reading[item] for reading in machine.readings) for choose in (min, max))
+    if together > most + distance or is_all and together < least - distance:
+        line, value = list(machine.readings[-1]).index(item) + 1, most if together > most else least
+        raise BadInput(f"{machine.vmstat}:{line}: {item} is {value}, and {together} in all of {machine.zoneinfo}: at "
+                       f"one moment they are at most {distance} apart, as --help says")
+
+
+def assumptions(machine, strict):
     """What has to hold of the machine for the figures to be true."""
+    zones, cpus = machine.zones, machine.cpus
     yield "The kernel counts as docs/MODEL.md says. Its section 13 has where Linux differs."
     yield ("Amounts in transit aren't counted: for each fold under way at most 125 pages of a counter in each zone or "
            "node, for each change under way at most its size and 187 pages.")
     yield f"Only these {cpus} CPUs keep something to themselves: any other was folded when it went away."
-    if not strict and any(zone.thresholds for zone in zones):
+    if not strict and machine.page_bytes and any(zone.thresholds for zone in zones):
         yield ("No CPU used a threshold last that is larger than all that its zone shows and than the zone's normal "
-               "one, and on a node none larger than those of its zones. With --strict this isn't assumed.")
+               "one, and on a node none larger than those of its zones. The normal one is computed for these "
+               f"{cpus} CPUs, for pages of {machine.page_bytes} bytes, and for the larger of the zone's managed and "
+               "present pages: the kernel last computed it for no more. With --strict this isn't assumed.")
     if (cpus > vmtrace.MAX_CPUS[2] or len(zones) > vmtrace.MAX_ZONES
             or any(zone.node > vmtrace.MAX_NODE or zone.kind not in vmtrace.KINDS for zone in zones)):
         yield (f"The laws hold of a machine such as this. They are proved for at most {vmtrace.MAX_CPUS[2]} CPUs and "
@@ -173,48 +243,71 @@ def assumptions(zones, cpus, strict):
                f"{', '.join(vmtrace.KINDS)}.")
 
 
-def check_machine(zones, nodes, cpus, chosen, name):
-    """The text tells of each zone what is needed, and has the counters that were asked for."""
-    if not zones:
-        raise BadInput(f"{name}: not the text of /proc/zoneinfo: no zone with counters")
-    check_fields(zones, (*MARKS, "managed", "start_pfn"), name)
-    for zone in zones:
-        if FREE not in zone.items:
-            raise BadInput(f"{name}:{zone.line}: zone {zone} has no '{FREE}'")
+def check_machine(machine, chosen):
+    """The texts have no impossible threshold, and the counters that were asked for."""
+    name, nodes = machine.zoneinfo, machine.info.nodes
+    for zone in machine.zones:
         if max(zone.thresholds.values(), default=0) > vmtrace.MAX_THRESHOLD:
             raise BadInput(f"{name}:{zone.line}: zone {zone} has a threshold above {vmtrace.MAX_THRESHOLD}")
-    for node in nodes:
-        if all(zone.node != node for zone in zones):
-            raise BadInput(f"{name}: node {node} has no zone with counters")
-    if not cpus:
-        raise BadInput(f"{name}: shows no CPU, so --cpus has to say how many there are")
     for item in chosen:
-        if not any(item in items for items in [zone.items for zone in zones] + list(nodes.values())):
-            raise BadInput(f"{name}: has no counter '{vmtrace.shown(item)}'")
+        if not any(item in items for items in [zone.items for zone in machine.zones] + list(nodes.values())):
+            raise BadInput(f"{name}: has no item '{vmtrace.shown(item)}'")
+        check_item(item, name)
+    for reading in machine.readings:
+        for items in [machine.zones[0].items, *nodes.values()]:
+            missing = [item for item in items if item not in reading]
+            if missing:
+                raise BadInput(f"{machine.vmstat}: has no line '{missing[0]} N', and {name} shows this item")
 
 
 def present_cpus():
     """How many CPUs this machine has, online or not; 0 where it doesn't say."""
     try:
-        return count_cpus("".join(vmtrace.lines_of(PRESENT)), PRESENT)
-    except OSError:
+        text = vmtrace.text_of(PRESENT)
+    except BadInput:
         return 0
+    return count_cpus(text, PRESENT)
+
+
+def this_machine(options):
+    """What this machine shows, of vmstat before and after zoneinfo."""
+    before, zoneinfo, after = map(vmtrace.text_of, (VMSTAT, ZONEINFO, VMSTAT))
+    info = read_zoneinfo(zoneinfo, ZONEINFO)
+    cpus = max(len(info.cpus), options.cpus, present_cpus())
+    readings = [read_vmstat(text, VMSTAT) for text in (before, after)]
+    return Machine(ZONEINFO, VMSTAT, info, readings, cpus, os.sysconf("SC_PAGE_SIZE"))
+
+
+def copied_machine(options):
+    """What the files show that were named."""
+    zoneinfo, vmstat = called(options.zoneinfo), called(options.vmstat or "")
+    info = read_zoneinfo(vmtrace.text_of(options.zoneinfo), zoneinfo)
+    readings = [read_vmstat(vmtrace.text_of(options.vmstat), vmstat)] if vmstat else []
+    return Machine(zoneinfo, vmstat, info, readings, max(len(info.cpus), options.cpus), options.page_size)
+
+
+def view_of(machine, options, thresholds):
+    """The figures of a machine whose texts are of one moment."""
+    check_machine(machine, options.item)
+    for zone in machine.zones:
+        thresholds.take_in(zone, machine)
+    if machine.readings:
+        check_sums(machine, thresholds, options.apart)
+    chosen = options.item or vmtrace.ZONE_ITEMS + vmtrace.NODE_ITEMS
+    places = list(places_of(machine, chosen, thresholds))
+    system = dict(system_of(machine.readings[-1], places)) if machine.readings else {}
+    return View(machine.cpus, places, system, list(assumptions(machine, options.strict)))
 
 
 def look(options, thresholds):
-    """Reads the files that were named, or this machine."""
-    live = options.zoneinfo is None
-    zoneinfo, vmstat = (ZONEINFO, VMSTAT) if live else (options.zoneinfo, options.vmstat)
-    info = read_zoneinfo(vmtrace.lines_of(zoneinfo), called(zoneinfo))
-    items = read_vmstat(vmtrace.lines_of(vmstat), called(vmstat)) if vmstat else {}
-    zones = [zone for zone in info.zones if zone.items]
-    cpus = max(len(info.cpus), options.cpus or 0, present_cpus() if live else 0)
-    check_machine(zones, info.nodes, cpus, options.item, called(zoneinfo))
-    for zone in zones:
-        thresholds.take_in(zone, cpus)
-    chosen = options.item or vmtrace.ZONE_ITEMS + vmtrace.NODE_ITEMS
-    places = list(places_of(zones, info.nodes, chosen, thresholds, cpus))
-    return View(cpus, places, dict(system_of(items, places)), list(assumptions(zones, cpus, options.strict)))
+    """Reads the files that were named, or this machine, and this again where it changed while it was read."""
+    if options.zoneinfo is not None:
+        return view_of(copied_machine(options), options, thresholds)
+    for _ in range(LOOKS - 1):
+        with suppress(BadInput):
+            return view_of(this_machine(options), options, thresholds)
+        time.sleep(BETWEEN_LOOKS)
+    return view_of(this_machine(options), options, thresholds)
 
 
 def text_of(view):
@@ -239,7 +332,8 @@ def remarks_of(view):
 
 def figure_row(named):
     item, figure = named
-    return item, figure.value, (f"off by at most {figure.off_by}: {figure.least} to {figure.most}, "
+    unit = "" if figure.unit.name == PAGES else f" {figure.unit.name}"
+    return item, figure.value, (f"off by at most {figure.off_by}{unit}: {figure.least} to {figure.most}, "
                                 f"by {' and '.join(figure.laws)}")
 
 
@@ -273,39 +367,59 @@ def place_json(place):
 
 
 def figures_json(figures):
-    return {item: {"value": figure.value, "off_by": figure.off_by, "least": figure.least, "most": figure.most,
-                   "laws": figure.laws} for item, figure in figures.items()}
+    return {item: {"value": figure.value, "unit": figure.unit.name, "cumulative": figure.unit.is_cumulative,
+                   "off_by": figure.off_by, "least": figure.least, "most": figure.most, "laws": figure.laws}
+            for item, figure in figures.items()}
+
+
+@dataclass(frozen=True)
+class Family:
+    """A family of metrics: its name, what it is, its unit if it has one, and its numbers with their labels."""
+
+    name: str
+    words: str
+    unit: str
+    numbers: list[tuple[dict[str, str], int]]
+    is_cumulative: bool = False
+
+    def lines(self):
+        yield f"# HELP {self.name} {self.words}"
+        yield f"# TYPE {self.name} {'counter' if self.is_cumulative else 'gauge'}"
+        if self.unit:
+            yield f"# UNIT {self.name} {self.unit}"
+        for labels, number in self.numbers:
+            told = ",".join(f'{label}="{text}"' for label, text in labels.items())
+            yield self.name + ("_total" if self.is_cumulative else "") + (f"{{{told}}}" if told else "") + f" {number}"
 
 
 def metrics_of(view):
-    """The families of the metrics: a name, what it is, and its numbers with their labels."""
+    """The families of the metrics."""
     zones = [place for place in view.places if place.watermarks]
     for item in dict.fromkeys(item for place in view.places for item in place.figures):
         named = [(place.labels, place.figures[item]) for place in view.places if item in place.figures]
-        yield from figure_metrics("vmstat_" + plain_name(item), f"{item} of /proc/zoneinfo", named)
+        yield from figure_metrics("vmstat_", item, "/proc/zoneinfo", named)
     for item, figure in view.system.items():
-        yield from figure_metrics("vmstat_system_" + plain_name(item), f"{item} of /proc/vmstat", [({}, figure)])
+        yield from figure_metrics("vmstat_system_", item, "/proc/vmstat", [({}, figure)])
     marks = [({**zone.labels, "watermark": mark}, watermark)
              for zone in zones for mark, watermark in zone.watermarks.items()]
-    yield ("vmstat_watermark_pages", "A watermark of /proc/zoneinfo.",
-           [(labels, watermark.pages) for labels, watermark in marks])
+    yield Family("vmstat_watermark_pages", "A watermark of /proc/zoneinfo.", "pages",
+                 [(labels, watermark.pages) for labels, watermark in marks])
     for side in (ABOVE, BELOW):
-        yield (f"vmstat_free_pages_{side.replace(' ', '_')}",
-               f"1 where the free pages are {side} the watermark, {by_laws([mark for _, mark in marks])}, else 0.",
-               [(labels, int(watermark.free == side)) for labels, watermark in marks])
+        yield Family(f"vmstat_free_pages_{side.replace(' ', '_')}",
+                     f"1 where the free pages are {side} the watermark, {by_laws([mark for _, mark in marks])}, else "
+                     "0.", "", [(labels, int(watermark.free == side)) for labels, watermark in marks])
 
 
-def plain_name(item):
-    """The name of an item with its unit, as metrics have it."""
-    name = item.removeprefix("nr_")
-    return name if name.endswith("_pages") else name + "_pages"
-
-
-def figure_metrics(name, what, named):
-    yield name, f"{what}.", [(labels, figure.value) for labels, figure in named]
-    yield (f"{name}_uncertainty_pages",
-           f"By how much {name} can be off at most, {by_laws([figure for _, figure in named])}, without the amounts in "
-           "transit.", [(labels, figure.off_by) for labels, figure in named])
+def figure_metrics(prefix, item, file, named):
+    """The values of an item, and by how much each can be off."""
+    unit = named[0][1].unit
+    word = METRIC_UNITS[unit.name]
+    name = prefix + item.removeprefix("nr_").removesuffix(f"_{word}")
+    yield Family(f"{name}_{word}", f"{item} of {file}.", word, [(labels, figure.value) for labels, figure in named],
+                 unit.is_cumulative)
+    yield Family(f"{name}_uncertainty_{word}",
+                 f"By how much {name}_{word} can be off at most, {by_laws([figure for _, figure in named])}, without "
+                 "the amounts in transit.", word, [(labels, figure.off_by) for labels, figure in named])
 
 
 def by_laws(figures):
@@ -314,14 +428,8 @@ def by_laws(figures):
 
 def openmetrics_of(view):
     """The lines for a collector of text files."""
-    for name, words, numbers in metrics_of(view):
-        yield f"# HELP {name} {words}"
-        yield f"# TYPE {name} gauge"
-        if name.endswith("_pages"):
-            yield f"# UNIT {name} pages"
-        for labels, number in numbers:
-            told = ",".join(f'{label}="{text}"' for label, text in labels.items())
-            yield f"{name}{{{told}}} {number}" if told else f"{name} {number}"
+    for family in metrics_of(view):
+        yield from family.lines()
     yield "# EOF"
 
 
@@ -337,33 +445,39 @@ def lines_of(view, options):
 
 
 def pause(text):
-    number = vmtrace.seconds(text)
-    if not number:
-        raise ValueError
-    return number
+    if number := vmtrace.seconds(text):
+        return number
+    raise ArgumentTypeError("a pause of no seconds")
 
 
-def number_of_cpus(text):
-    return vmtrace.within(text, 1, MAX_CPUS)
+def page_size(text):
+    if text in map(str, PAGE_SIZES):
+        return int(text)
+    raise ArgumentTypeError(f"'{vmtrace.shown(text)}' is none of {', '.join(map(str, PAGE_SIZES))}")
 
 
 def parse(arguments):
-    parser = argparse.ArgumentParser(description=__doc__, formatter_class=argparse.RawDescriptionHelpFormatter)
+    parser = vmtrace.Parser(__doc__)
     parser.add_argument("--zoneinfo", metavar="FILE", help="a copy of /proc/zoneinfo, - for standard input")
     parser.add_argument("--vmstat", metavar="FILE", help="a copy of /proc/vmstat, for the counters of all nodes")
-    parser.add_argument("--cpus", metavar="N", type=number_of_cpus,
+    parser.add_argument("--page-size", metavar="BYTES", type=page_size, default=0,
+                        help="how large the pages of the copied machine are, as getconf PAGESIZE says there")
+    parser.add_argument("--apart", metavar="N", type=vmtrace.number_in(0, MAX_APART), default=0,
+                        help="how much further apart numbers of the two copies may be than at one moment")
+    parser.add_argument("--cpus", metavar="N", type=vmtrace.number_in(1, MAX_CPUS), default=0,
                         help="how many CPUs there are, where that is more than zoneinfo shows")
     parser.add_argument("--item", metavar="ITEM", action="append", default=[],
-                        help="print this counter, one that the kernel counts in pages; may be given again; without it "
-                             "the sixteen that each trace has")
+                        help="print this item; may be given again; without it the sixteen that each trace has")
     parser.add_argument("--strict", action="store_true", help="take 125 for every threshold, whatever is shown")
     parser.add_argument("--watch", metavar="SECONDS", type=pause, help="look again after so many seconds, until Ctrl-C")
     form = parser.add_mutually_exclusive_group()
     form.add_argument("--json", action="store_true", help="print JSON, with --watch a line for each look")
     form.add_argument("--openmetrics", action="store_true", help="print metrics for a collector of text files")
     options = parser.parse_args(arguments)
-    if options.vmstat and not options.zoneinfo:
-        parser.error("--vmstat goes with --zoneinfo: without both this machine is read")
+    if (options.vmstat or options.page_size) and not options.zoneinfo:
+        parser.error("--vmstat and --page-size go with --zoneinfo: without it this machine is read")
+    if options.apart and not options.vmstat:
+        parser.error("--apart goes with --vmstat")
     if options.watch and (options.openmetrics or "-" in (options.zoneinfo, options.vmstat)):
         parser.error("--watch goes neither with --openmetrics nor with standard input")
     return options

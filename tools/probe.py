@@ -3,7 +3,7 @@
 
 The two lines come after `go`, after every EVERY lane lines, and after the last lane line. So no line stands in
 another phase than before, and the readings change no counter. The probed trace goes to standard output."""
-import argparse
+import interrupts  # first, for what it does
 import sys
 
 import vmtrace
@@ -58,15 +58,12 @@ def check_limits(lines, header, limits, name):
                                f"{limits.phases:,}: take a trace with fewer boundary lines")
 
 
-def positive(text):
-    return vmtrace.within(text, 1, vmtrace.Limits.lines)
-
-
 def parse(arguments):
-    parser = argparse.ArgumentParser(description=__doc__, formatter_class=argparse.RawDescriptionHelpFormatter)
+    parser = vmtrace.Parser(__doc__)
     parser.add_argument("trace", metavar="TRACE", help="the trace, - for standard input")
     parser.add_argument("counter", metavar="COUNTER", help="as one word of the shell: '0 Normal nr_free_pages'")
-    parser.add_argument("every", metavar="EVERY", type=positive, help="how many lane lines lie between two readings")
+    parser.add_argument("every", metavar="EVERY", type=vmtrace.number_in(1, vmtrace.Limits.lines),
+                        help="how many lane lines lie between two readings")
     return parser.parse_args(arguments)
 
 
@@ -77,7 +74,7 @@ def main(arguments, limits=vmtrace.Limits()):
     lines = vmtrace.lines_of(options.trace)
     header = vmtrace.read_header(lines, name)
     if not header.has(counter):
-        raise vmtrace.BadInput(f"{name}: the header has no counter '{counter}'")
+        raise vmtrace.BadInput(f"{name}: the header has no counter '{vmtrace.shown(str(counter))}'")
     result = list(probed(lines, header, counter, options.every))
     check_limits(result, header, limits, name)
     sys.stdout.reconfigure(**vmtrace.ANY_BYTES)

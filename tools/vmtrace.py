@@ -2,12 +2,14 @@
 
 The judge of a trace is the program. What is read here is what a tool needs to know of one that the program accepts.
 """
+import argparse
 import gzip
 import lzma
 import os
 import re
 import sys
 import zlib
+from contextlib import contextmanager, suppress
 from dataclasses import dataclass, field
 
 KINDS = ("DMA", "DMA32", "Normal", "Movable")
@@ -28,6 +30,9 @@ MAX_THRESHOLD = 125
 NUMBER = re.compile(r"0|-?[1-9][0-9]{,19}")
 WORD = re.compile(r"[!-~]+")
 ANY_BYTES = {"encoding": "ascii", "errors": "surrogateescape", "newline": "\n"}
+MOST_SHOWN = 80
+MOST_TEXT, MOST_LINE = 2**27, 2**20
+MAX_SECONDS = 10**9
 
 
 class BadInput(Exception):
@@ -111,36 +116,82 @@ def computed_watermarks(kbytes, scale, managed):
         yield lowest, lowest + step, lowest + 2 * step
 
 
-def normal_threshold(managed, online):
-    """calculate_normal_threshold, of a zone with so many managed pages where so many CPUs are online."""
-    return min(MAX_THRESHOLD, 2 * online.bit_length() * (1 + (managed >> 15).bit_length()))
+def normal_threshold(managed, online, page_bytes=PAGE_BYTES):
+    """calculate_normal_threshold, of a zone with so many managed pages where so many CPUs are online.
+
+    It counts the pieces of 128 MiB, so it depends on the size of a page.
+    """
+    return min(MAX_THRESHOLD, 2 * online.bit_length() * (1 + (managed * page_bytes >> 27).bit_length()))
+
+
+def escaped(text):
+    """The text with each byte and letter spelled out that a terminal wouldn't show as it stands."""
+    return "".join(letter if letter.isprintable() else spelled(letter) for letter in text)
+
+
+def spelled(letter):
+    """A byte that is no text as two hexadecimal digits, any other letter as Python spells it."""
+    if "\udc80" <= letter <= "\udcff":
+        return f"\\x{ord(letter) - 0xdc00:02x}"
+    return letter.encode("unicode_escape").decode()
 
 
 def shown(text):
     """A text as messages show it, not much of a long one."""
-    return text if len(text) <= 80 else text[:80] + ".."
+    return escaped(text if len(text) <= MOST_SHOWN else text[:MOST_SHOWN] + "..")
 
 
 def called(name):
     """What messages call the file of that name."""
-    return "standard input" if name == "-" else name
+    return "standard input" if name == "-" else escaped(name)
 
 
-def open_text(name):
+@contextmanager
+def reading(name):
+    """Says what is wrong with a file that can't be read."""
+    try:
+        yield
+    except (lzma.LZMAError, gzip.BadGzipFile, zlib.error, EOFError) as error:
+        raise BadInput(f"{called(name)}: the packed file is damaged: {error}") from None
+    except OSError as error:
+        raise BadInput(f"{called(name)}: {error.strerror or error}") from None
+
+
+def opened(name):
     """The file of that name, or standard input for `-`, whatever bytes it holds; .xz and .gz are unpacked."""
-    if name == "-":
-        if sys.stdin.closed:
-            raise BadInput("standard input can be read only once")
-        sys.stdin.reconfigure(**ANY_BYTES)
-        return sys.stdin
-    opener = {".xz": lzma.open, ".gz": gzip.open}.get(os.path.splitext(name)[1], open)
-    return opener(name, "rt", **ANY_BYTES)
+    if name != "-":
+        opener = {".xz": lzma.open, ".gz": gzip.open}.get(os.path.splitext(name)[1], open)
+        return opener(name, "rt", **ANY_BYTES)
+    if sys.stdin is None:
+        raise BadInput("standard input is closed")
+    if sys.stdin.closed:
+        raise BadInput("standard input can be read only once")
+    sys.stdin.reconfigure(**ANY_BYTES)
+    return sys.stdin
+
+
+def text_of(name):
+    """The text of a file."""
+    with reading(name), opened(name) as file:
+        text = file.read(MOST_TEXT + 1)
+    if len(text) > MOST_TEXT:
+        raise BadInput(f"{called(name)}: is longer than the {MOST_TEXT:,} bytes that are read of a file")
+    return text
 
 
 def lines_of(name):
     """The lines of a file without their byte 10."""
-    with open_text(name) as file:
-        return [line.rstrip("\n") for line in file]
+    *lines, rest = text_of(name).split("\n")
+    return [*lines, rest] if rest else lines
+
+
+def each_line(name):
+    """The lines of a file without their byte 10, as they are read, of a file of any length."""
+    with reading(name), opened(name) as file:
+        while line := file.readline(MOST_LINE + 1):
+            if len(line) > MOST_LINE:
+                raise BadInput(f"{called(name)}: a line is longer than the {MOST_LINE:,} bytes that are read of one")
+            yield line.removesuffix("\n")
 
 
 def within(word, least, most):
@@ -156,11 +207,35 @@ def one_of(word, words):
     return word
 
 
-def seconds(text):
-    number = float(text)
-    if not 0 <= number < float("inf"):
-        raise ValueError
+class Parser(argparse.ArgumentParser):
+    """What reads the words of a tool. Messages show words of the user escaped, and a help that isn't written fails."""
+
+    def __init__(self, description):
+        super().__init__(description=description, formatter_class=argparse.RawDescriptionHelpFormatter)
+
+    def error(self, message):
+        super().error(escaped(message))
+
+    def print_help(self, file=None):
+        (file or sys.stdout).write(self.format_help())
+
+
+def number_in(least, most):
+    """A type of numbers of this range, for an option."""
+    def number(text):
+        try:
+            return within(text, least, most)
+        except ValueError:
+            raise argparse.ArgumentTypeError(f"'{shown(text)}' is no number from {least} to {most}") from None
     return number
+
+
+def seconds(text):
+    """A type of numbers of seconds, for an option."""
+    with suppress(ValueError):
+        if 0 <= float(text) <= MAX_SECONDS:
+            return float(text)
+    raise argparse.ArgumentTypeError(f"'{shown(text)}' is no number of seconds from 0 to {MAX_SECONDS}")
 
 
 def add_line(header, words):
@@ -207,24 +282,45 @@ def read_header(lines, name):
     return header
 
 
-def run(main):
-    """Calls a tool's main and ends with its status: 1 with a message where what it was given is bad, 130 at Ctrl-C."""
+def tell(message):
+    """A line on standard error, where that can be written."""
     tool = os.path.splitext(os.path.basename(sys.argv[0]))[0]
     try:
-        status = main(sys.argv[1:])
+        print(f"{tool}: {message}", file=sys.stderr, flush=True)
+    except OSError:
+        discard(sys.stderr)
+
+
+def discard(stream):
+    """Lets nothing come of what a stream still holds. Python would write it at its end, in vain."""
+    os.dup2(os.open(os.devnull, os.O_WRONLY), stream.fileno())
+
+
+def run(main):
+    """Calls a tool's main and ends with its status: 1 with a message where what it was given is bad, 130 at Ctrl-C."""
+    if sys.stderr is None:
+        sys.stderr = open(os.devnull, "w", encoding="ascii")
+    if sys.stdout is None:
+        tell("standard output is closed")
+        sys.exit(1)
+    try:
+        status = status_of(main)
         sys.stdout.flush()
-    except BrokenPipeError:
-        os.dup2(os.open(os.devnull, os.O_WRONLY), sys.stdout.fileno())
-        status = 1
-    except BadInput as bad:
-        print(f"{tool}: {bad}", file=sys.stderr)
-        status = 1
-    except KeyboardInterrupt:
-        status = 130
-    except (lzma.LZMAError, gzip.BadGzipFile, zlib.error, EOFError) as error:
-        print(f"{tool}: a packed file is damaged: {error}", file=sys.stderr)
-        status = 1
     except OSError as error:
-        print(f"{tool}: {error.filename or 'input or output'}: {error.strerror or error}", file=sys.stderr)
+        if not isinstance(error, BrokenPipeError):
+            tell(f"{escaped(str(error.filename or 'standard output'))}: {error.strerror or error}")
+        discard(sys.stdout)
         status = 1
     sys.exit(status)
+
+
+def status_of(main):
+    try:
+        return main(sys.argv[1:])
+    except SystemExit as end:
+        return end.code
+    except BadInput as bad:
+        tell(bad)
+        return 1
+    except KeyboardInterrupt:
+        return 130

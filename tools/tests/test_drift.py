@@ -153,9 +153,9 @@ class DriftTest(ToolTest):
             ("plain: has no answer to a reading", trace, plain),
             ("trace:17: the program refuses this line", trace, other),
             ("wrong: line 14: the value 1000 is outside of 919 to 999", trace, wrong),
-            ("long: the program prints no line 'line 8: value 9",
+            ("long:1: the program prints no line 'line 8: value 9",
              trace, self.file("long", f"line 8: value {DIGITS}\n")),
-            ("far: the program prints no line 'line 9", trace, self.file("far", f"line {DIGITS}: refused: x\n")),
+            ("far:1: the program prints no line 'line 9", trace, self.file("far", f"line {DIGITS}: refused: x\n")),
             ("large:8: the program refuses this line",
              self.file("large", f"{HEADER}c0 mod {FREE} {DIGITS}\n{VAL}\n"), self.file("answer", "line 9: value 1\n")),
         ]
@@ -172,7 +172,7 @@ class DriftTest(ToolTest):
 
     def test_damaged_files(self):
         Path("trace.gz").write_bytes(gzip.compress(HEADER.encode())[:-12])
-        self.fails("drift: a packed file is damaged", "trace.gz", "-")
+        self.fails("drift: trace.gz: the packed file is damaged", "trace.gz", "-")
 
 
 if __name__ == "__main__":

@@ -32,6 +32,12 @@ ZONEINFO = """Node 0, zone      DMA
               high:     6
               batch:    7
   vm stats threshold: 6
+    cpu: 1
+              count:    5
+              high:     6
+              batch:    7
+  vm stats threshold: 6
+  node_unreclaimable:  0
   start_pfn:           1
 Node 0, zone   Normal
   pages free     5000
@@ -41,11 +47,14 @@ Node 0, zone   Normal
         spanned  1000
         present  1000
         managed  900
+        protection: (0, 0, 0)
       nr_free_pages 5000
       nr_mlock     4
   pagesets
     cpu: 0
+  vm stats threshold: 6
     cpu: 1
+  vm stats threshold: 6
   start_pfn:           4096
 Node 0, zone  Movable
   pages free     0
@@ -55,6 +64,7 @@ Node 0, zone  Movable
         spanned  0
         present  0
         managed  0
+        protection: (0, 0, 0)
 """
 HEADER = """vmtrace 1
 cpus 2
@@ -234,7 +244,8 @@ class FromKernelTest(ToolTest):
         status, output, _ = self.call("--zoneinfo", self.file("zoneinfo", ZONEINFO), "--events", "-", stdin=event())
         self.assertEqual((status, output.splitlines()[-1]), (0, "c0 mod 0 Normal nr_free_pages -1"))
         rows = [
-            ("standard input:1: the order 64", ["--zoneinfo", "zoneinfo", "--events", "-"], event(order=64)),
+            ("standard input:1: the order 64 is too large: at most 20", ["--zoneinfo", "zoneinfo", "--events", "-"],
+             event(order=64)),
             ("standard input: not the text of /proc/zoneinfo", ["--zoneinfo", "-"], ""),
             ("standard input can be read only once", ["--zoneinfo", "-", "--events", "-"], ZONEINFO),
         ]
@@ -245,13 +256,25 @@ class FromKernelTest(ToolTest):
     def test_bad_zoneinfo(self):
         rows = [
             ("zoneinfo: not the text of /proc/zoneinfo", ""),
-            ("zoneinfo: not the text of /proc/zoneinfo", "MemTotal: 16 kB\n"),
-            ("zoneinfo:24: zone 0 Normal has no 'spanned'", ZONEINFO.replace("        spanned  1000\n", "")),
-            ("zoneinfo:24: zone 0 Normal has no 'start_pfn'", ZONEINFO.replace("  start_pfn:           4096\n", "")),
+            ("zoneinfo:1: 'MemTotal: 16 kB' stands where 'Node N, zone NAME' is expected", "MemTotal: 16 kB\n"),
+            ("zoneinfo:30: zone 0 Normal has no 'spanned'", ZONEINFO.replace("        spanned  1000\n", "")),
+            ("zoneinfo:46: 'Node 0, zone  Movable' stands where 'cpu: N or start_pfn: N' is expected",
+             ZONEINFO.replace("  start_pfn:           4096\n", "")),
             ("zoneinfo:8: 'x' is no number", ZONEINFO.replace("min      1\n", "min      x\n")),
             ("zoneinfo:8: '999", ZONEINFO.replace("min      1\n", f"min      {DIGITS}\n")),
-            ("zoneinfo:24: '999", ZONEINFO.replace("Node 0, zone   Normal", f"Node {DIGITS}, zone   Normal")),
-            ("zoneinfo:24: zone 0 Normal has no 'start_pfn'", ZONEINFO[:ZONEINFO.rindex("      nr_free_pages")]),
+            ("zoneinfo:30: '999", ZONEINFO.replace("Node 0, zone   Normal", f"Node {DIGITS}, zone   Normal")),
+            ("zoneinfo:40: the text ends here, where a line 'pagesets' is expected",
+             ZONEINFO[:ZONEINFO.rindex("  pagesets")]),
+            ("zoneinfo: no zone of a kind that a trace has, DMA, DMA32, Normal, Movable, has managed pages",
+             ZONEINFO.replace("managed  3840", "managed  0").replace("managed  900", "managed  0")),
+            ("zoneinfo:1: 0 DMA nr_free_pages begins with 281474976710657, and a trace has at most 281474976710656",
+             ZONEINFO.replace("nr_free_pages 100\n", f"nr_free_pages {2**48 + 1}\n")),
+            ("zoneinfo: 0 node nr_dirty begins with 281474976710657",
+             ZONEINFO.replace("nr_dirty     13", f"nr_dirty {2**48 + 1}")),
+            ("zoneinfo:1: zone 0 DMA has 1099511627777 as 'managed', and in a trace at most 1099511627776",
+             ZONEINFO.replace("managed  3840", f"managed  {2**40 + 1}")),
+            ("zoneinfo:30: zone 0 Normal has 1099511627777 as 'high'",
+             ZONEINFO.replace("high     30", f"high     {2**40 + 1}")),
             ("zoneinfo: CPU 128 is online", ZONEINFO.replace("cpu: 1", "cpu: 128")),
             ("zoneinfo: a trace has at most 16 zones, of nodes 0 to 15", ZONEINFO.replace("Node 0", "Node 16")),
         ]
@@ -283,9 +306,14 @@ class FromKernelTest(ToolTest):
         self.file("zoneinfo", ZONEINFO)
         self.fails("from_kernel: nowhere: No such file", "--zoneinfo", "nowhere")
         self.fails("from_kernel: nowhere: No such file", "--zoneinfo", "zoneinfo", "--events", "nowhere")
-        self.fails("zoneinfo: not the text of /proc/vmstat", "--zoneinfo", "zoneinfo", "--vmstat", "zoneinfo", "x")
+        self.fails("zoneinfo:1: 'Node 0, zone      DMA' stands where 'NAME N' is expected",
+                   "--zoneinfo", "zoneinfo", "--vmstat", "zoneinfo", "x")
         vmstat = self.file("vmstat", f"nr_zspages 0\nnr_free_pages {DIGITS}\n")
         self.fails("from_kernel: vmstat:2: '999", "--zoneinfo", "zoneinfo", "--vmstat", vmstat, vmstat)
+
+    def test_lines_without_end(self):
+        self.fails("from_kernel: /dev/zero: a line is longer than the 1,048,576 bytes that are read of one",
+                   "--zoneinfo", self.file("zoneinfo", ZONEINFO), "--events", "/dev/zero")
 
     def test_damaged_files(self):
         self.file("zoneinfo", ZONEINFO)
@@ -301,7 +329,8 @@ class FromKernelTest(ToolTest):
         for name, data in rows:
             with self.subTest(data):
                 Path(name).write_bytes(data)
-                self.fails("from_kernel: a packed file is damaged", "--zoneinfo", "zoneinfo", "--events", name)
+                self.fails(f"from_kernel: {name}: the packed file is damaged", "--zoneinfo", "zoneinfo",
+                           "--events", name)
 
     @contextmanager
     def tracefs(self, *files, remove=shutil.rmtree):

@@ -1,7 +1,9 @@
 """monitor.py: texts of the kernel on one side, bounds worked out by hand on the other; and a recorded second, replayed.
 
-On 2 CPUs a zone of 262,144 pages has the normal threshold 2 * 2 * (1 + 4) = 20, one of 1,000 pages 2 * 2 * 1 = 4.
+On 2 CPUs a zone of 262,144 pages of 4 KiB has the normal threshold 2 * 2 * (1 + 4) = 20, one of 1,000 pages
+2 * 2 * 1 = 4, and one of 262,144 pages of 64 KiB 2 * 2 * (1 + 8) = 36.
 """
+import dataclasses
 import gzip
 import json
 import re
@@ -15,30 +17,49 @@ from unittest import mock
 
 from calls import SAMPLES, TOOLS, ToolTest, vmtrace
 
-import monitor  # once the directory of the tools is known
+import items  # once the directory of the tools is known
+import monitor
+from procinfo import read_zoneinfo
 
 TOP = TOOLS.parent
 READING = re.compile(r"line (\d+): (value|snapshot|system) (\d+)$", re.M)
 NORMAL = "0 Normal nr_free_pages"
 
 
-def zone(kind="Normal", free=1000, managed=262144, thresholds=(20, 20), marks=(100, 125, 150), node=0, stats=""):
-    """A zone as /proc/zoneinfo has it, with a threshold for each CPU, or the CPU alone for None."""
+PAGE = ("--page-size", "4096")
+NODE_STATS = "      nr_dirty     13\n      nr_kernel_stack 1928\n      nr_dirtied   90\n      nr_file_hugepages 3\n"
+
+
+def zone(kind="Normal", free=1000, managed=262144, thresholds=(20, 20), marks=(100, 125, 150), node=0, stats=NODE_STATS,
+         present=None, kinds=1):
+    """A zone as /proc/zoneinfo has it, with a threshold for each CPU, or the CPU alone for None.
+
+    It has the counters of its node if it is the first one of it, and the node has so many kinds of zones.
+    """
     cpus = "".join(f"    cpu: {cpu}\n              count:    0\n              high:     7\n"
                    + ("" if threshold is None else f"  vm stats threshold: {threshold}\n")
                    for cpu, threshold in enumerate(thresholds))
     per_node = f"  per-node stats\n{stats}" if stats else ""
     return (f"Node {node}, zone {kind:>8}\n{per_node}  pages free     {free}\n        boost    0\n"
             "        min      {}\n        low      {}\n        high     {}\n".format(*marks)
-            + f"        spanned  {managed}\n        present  {managed}\n        managed  {managed}\n"
-            f"        protection: (0, 0)\n      nr_free_pages {free}\n      nr_mlock     7\n      numa_hit     5\n"
+            + f"        spanned  {managed}\n        present  {present or managed}\n        managed  {managed}\n"
+            f"        protection: ({', '.join(['0'] * kinds)})\n"
+            f"      nr_free_pages {free}\n      nr_mlock     7\n      numa_hit     5\n"
             f"  pagesets\n{cpus}  node_unreclaimable:  0\n  start_pfn:           4096\n")
 
 
-EMPTY = "Node 0, zone  Movable\n  pages free     0\n        min      32\n        low      32\n        high     32\n"
-NODE_STATS = "      nr_dirty     13\n      nr_kernel_stack 1928\n      workingset_nodes 4\n"
-SMALL = zone("DMA", 3000, 1000, (4, 4), (3005, 3000, 2990), stats=NODE_STATS) + zone() + EMPTY
-VMSTAT = "nr_free_pages 4000\nnr_mlock 14\nnr_dirty 13\nnr_dirty_threshold 792761\npgfault 5\n"
+def unpopulated(kind="Movable", node=0, spanned=0, kinds=3):
+    """A zone without present pages, as /proc/zoneinfo has it. A zone of devices spans pages none the less."""
+    return (f"Node {node}, zone {kind:>8}\n  pages free     0\n        boost    0\n        min      32\n"
+            f"        low      32\n        high     32\n        spanned  {spanned}\n        present  0\n"
+            f"        managed  0\n        protection: ({', '.join(['0'] * kinds)})\n")
+
+
+EMPTY = unpopulated()
+SMALL = (zone("DMA", 3000, 1000, (4, 4), (3005, 3000, 2990), kinds=3)
+         + zone(free=1000, stats="", kinds=3) + EMPTY)
+VMSTAT = ("nr_free_pages 4000\nnr_mlock 14\nnuma_hit 11\nnr_dirty 13\nnr_kernel_stack 1928\nnr_dirtied 90\n"
+          "nr_file_hugepages 3\nnr_dirty_threshold 792761\npgfault 5\n")
 TEXT = """Node 0, zone DMA: each of 2 CPUs may keep 4 pages of a counter to itself
   min           3005  free pages: can't be told, by drift
   low           3000  free pages: can't be told, by drift
@@ -64,12 +85,12 @@ METRICS = """# HELP vmstat_free_pages nr_free_pages of /proc/zoneinfo.
 # UNIT vmstat_free_pages pages
 vmstat_free_pages{node="0",zone="DMA"} 3000
 vmstat_free_pages{node="0",zone="Normal"} 1000
-# HELP vmstat_free_pages_uncertainty_pages By how much vmstat_free_pages can be off at most, by drift, without the \
+# HELP vmstat_free_uncertainty_pages By how much vmstat_free_pages can be off at most, by drift, without the \
 amounts in transit.
-# TYPE vmstat_free_pages_uncertainty_pages gauge
-# UNIT vmstat_free_pages_uncertainty_pages pages
-vmstat_free_pages_uncertainty_pages{node="0",zone="DMA"} 8
-vmstat_free_pages_uncertainty_pages{node="0",zone="Normal"} 40
+# TYPE vmstat_free_uncertainty_pages gauge
+# UNIT vmstat_free_uncertainty_pages pages
+vmstat_free_uncertainty_pages{node="0",zone="DMA"} 8
+vmstat_free_uncertainty_pages{node="0",zone="Normal"} 40
 # HELP vmstat_dirty_pages nr_dirty of /proc/zoneinfo.
 # TYPE vmstat_dirty_pages gauge
 # UNIT vmstat_dirty_pages pages
@@ -80,9 +101,9 @@ vmstat_dirty_pages{node="0"} 13
 class MonitorTest(ToolTest):
     tool = "monitor"
 
-    def look(self, zoneinfo, *options, vmstat=None):
-        """What the tool says as JSON of these texts."""
-        words = ["--zoneinfo", self.file("zoneinfo", zoneinfo)]
+    def look(self, zoneinfo, *options, vmstat=None, page=PAGE):
+        """What the tool says as JSON of these texts, of a machine with pages of 4 KiB."""
+        words = ["--zoneinfo", self.file("zoneinfo", zoneinfo), *page]
         if vmstat is not None:
             words += ["--vmstat", self.file("vmstat", vmstat)]
         status, output, errors = self.call(*words, "--json", *options)
@@ -109,23 +130,38 @@ class MonitorTest(ToolTest):
             ("the number of CPUs fell, and a CPU doesn't know yet", (30, 20), [], 60, both),
             ("the watermarks lie far apart, under memory pressure", (125, 125), [], 250, both),
             ("no threshold shown", (None, None), [], 250, strict),
-            ("one threshold shown", (None, 20), [], 40, both),
             ("whatever is shown", (20, 20), ["--strict"], 250, strict),
             ("8 CPUs, of which two are online", (20, 20), ["--cpus", "8"], 8 * 40, both),
             ("fewer CPUs than zoneinfo shows", (20, 20), ["--cpus", "1"], 40, both),
             ("8 CPUs and no threshold shown", (None, None), ["--cpus", "8"], 1000, strict),
-            ("no CPU shown", (), ["--cpus", "3"], 375, strict),
         ]
+        vmstat = VMSTAT.replace("4000", "1000").replace("14", "7")
         for what, thresholds, options, off_by, laws in rows:
             with self.subTest(what):
-                found = self.look(zone(thresholds=thresholds, stats=NODE_STATS), *options, vmstat=VMSTAT)
-                figure = {"value": 1000, "off_by": off_by, "least": max(0, 1000 - off_by), "most": 1000 + off_by,
-                          "laws": laws}
+                found = self.look(zone(thresholds=thresholds), *options, vmstat=vmstat)
+                figure = {"value": 1000, "unit": "pages", "cumulative": False, "off_by": off_by,
+                          "least": max(0, 1000 - off_by), "most": 1000 + off_by, "laws": laws}
                 self.assertEqual(found["zones"][0]["counters"]["nr_free_pages"], figure)
                 self.assertEqual(found["nodes"][0]["counters"]["nr_dirty"]["off_by"], off_by)
                 self.assertEqual(found["all_nodes"]["nr_free_pages"]["off_by"], off_by)
                 self.assertEqual(found["all_nodes"]["nr_free_pages"]["laws"], ["system_drift", *laws[1:]])
                 self.assertEqual(list(found["laws"]), ["drift", "system_drift", *laws[1:]])
+
+    def test_normal_thresholds(self):
+        """They go by the bytes of the pages managed or present, and are 125 where the size of a page isn't known."""
+        rows = [
+            ("pages of 4 KiB", {}, ["--page-size", "4096"], 20),
+            ("pages of 16 KiB", {}, ["--page-size", "16384"], 28),
+            ("pages of 64 KiB", {}, ["--page-size", "65536"], 36),
+            ("pages of a size that isn't known", {}, [], 125),
+            ("managed pages that were taken away", {"managed": 1000, "present": 262144}, ["--page-size", "4096"], 20),
+            ("more managed than present ones", {"managed": 262144, "present": 1000}, ["--page-size", "4096"], 20),
+            ("whatever is known", {}, ["--page-size", "4096", "--strict"], 125),
+        ]
+        for what, pages, options, threshold in rows:
+            with self.subTest(what):
+                found = self.look(zone(thresholds=(4, 4), **pages), page=options)
+                self.assertEqual(found["zones"][0]["threshold"], threshold)
 
     def test_sides_of_a_watermark(self):
         rows = [(141, "surely above"), (140, "can't be told"), (100, "can't be told"), (60, "can't be told"),
@@ -138,26 +174,92 @@ class MonitorTest(ToolTest):
 
     def test_sums(self):
         """A node has the largest threshold of its zones, and all nodes are off by what their parts are together."""
-        zoneinfo = SMALL + zone("Normal", 500, 1000, (9, 4), node=1, stats="      nr_dirty 2\n")
-        found = self.look(zoneinfo, vmstat=VMSTAT)
+        zoneinfo = SMALL + zone("Normal", 500, 1000, (9, 4), node=1)
+        vmstat = "nr_free_pages 4500\nnr_mlock 21\nnuma_hit 9\nnr_dirty 26\nnr_kernel_stack 3856\nnr_dirtied 180\n"
+        found = self.look(zoneinfo, vmstat=vmstat + "nr_file_hugepages 6\n")
         self.assertEqual([zone["threshold"] for zone in found["zones"]], [4, 20, 9])
         self.assertEqual([(node["node"], node["threshold"]) for node in found["nodes"]], [(0, 20), (1, 9)])
         self.assertEqual({item: figure["off_by"] for item, figure in found["all_nodes"].items()},
                          {"nr_free_pages": 66, "nr_mlock": 66, "nr_dirty": 58})
 
-    def test_a_part_that_is_missing(self):
-        """Where a zone or a node doesn't show a counter, nothing is said of it for all nodes."""
-        zoneinfo = SMALL.replace("      nr_mlock     7\n", "", 1) + zone(node=1)
-        found = self.look(zoneinfo, vmstat=VMSTAT)
-        self.assertEqual(list(found["all_nodes"]), ["nr_free_pages"])
-        self.assertEqual(self.look(SMALL, vmstat="nr_free_pages 4000\n")["all_nodes"].keys(), {"nr_free_pages"})
+    def test_a_pair_of_one_moment(self):
+        """The zones of SMALL are off by 8 and 40, its node by 40: at one moment numbers are 96 and 80 apart at most."""
+        hidden = unpopulated("Device", node=1, spanned=4096, kinds=1)
+        rows = [
+            ("of all zones too few", SMALL, ("free_pages 4000", "free_pages 4096"), [], None),
+            ("of all zones far too few", SMALL, ("free_pages 4000", "free_pages 4097"), [], "vmstat:1: nr_free_pages"),
+            ("of all zones too many", SMALL, ("free_pages 4000", "free_pages 3904"), [], None),
+            ("of all zones far too many", SMALL, ("free_pages 4000", "free_pages 3903"), [], "vmstat:1: nr_free_pages"),
+            ("apart", SMALL, ("free_pages 4000", "free_pages 3900"), ["--apart", "4"], None),
+            ("far apart", SMALL, ("free_pages 4000", "free_pages 3899"), ["--apart", "4"], "vmstat:1: nr_free_pages"),
+            ("thresholds of 125", SMALL, ("free_pages 4000", "free_pages 3000"), ["--strict"], None),
+            ("of a node", SMALL, ("nr_dirtied 90", "nr_dirtied 170"), [], None),
+            ("of a node, far", SMALL, ("nr_dirtied 90", "nr_dirtied 171"), [],
+             "vmstat:6: nr_dirtied is 171, and 90 in all of zoneinfo: at one moment they are at most 80 apart"),
+            ("events", SMALL, ("numa_hit 11", "numa_hit 9999"), [], None),
+            ("a node that is missing", SMALL, ("nr_kernel_stack 1928", "nr_kernel_stack 4000"), [], "vmstat:5:"),
+            ("a node of devices", SMALL + hidden, ("nr_kernel_stack 1928", "nr_kernel_stack 4000"), [], None),
+            ("a node of devices, too many", SMALL + hidden, ("nr_kernel_stack 1928", "nr_kernel_stack 0"), [],
+             "vmstat:5:"),
+            ("a node without memory", SMALL + unpopulated(node=1, kinds=1),
+             ("nr_kernel_stack 1928", "nr_kernel_stack 4000"), [], "vmstat:5:"),
+            ("an item that is missing", SMALL, ("nr_mlock 14\n", ""), [], "vmstat: has no line 'nr_mlock N'"),
+        ]
+        for what, zoneinfo, change, options, message in rows:
+            with self.subTest(what):
+                words = ["--zoneinfo", self.file("zoneinfo", zoneinfo), *PAGE,
+                         "--vmstat", self.file("vmstat", VMSTAT.replace(*change)), "--json", *options]
+                if message:
+                    self.fails("monitor: " + message, *words)
+                else:
+                    self.assertEqual(self.call(*words)[0], 0)
+
+    def test_the_recorded_pairs(self):
+        words = ["--zoneinfo", SAMPLES / "zoneinfo", *PAGE, "--json", "--vmstat"]
+        status, output, _ = self.call(*words, SAMPLES / "vmstat.before")
+        self.assertEqual((status, json.loads(output)["all_nodes"]["nr_free_pages"]["off_by"]), (0, 384))
+        self.fails("vmstat.after:1: nr_free_pages is 860206, and 862477 in all of", *words, SAMPLES / "vmstat.after")
+        self.assertEqual(self.call(*words, SAMPLES / "vmstat.after", "--apart", "15000")[0], 0)
+
+    def test_units(self):
+        words = [word for item in ("nr_kernel_stack", "nr_dirtied", "nr_file_hugepages") for word in ("--item", item)]
+        counters = self.look(SMALL, *words, vmstat=VMSTAT)["all_nodes"]
+        self.assertEqual([(item, figure["unit"], figure["cumulative"]) for item, figure in counters.items()],
+                         [("nr_kernel_stack", "KiB", False), ("nr_dirtied", "pages", True),
+                          ("nr_file_hugepages", "huge pages", False)])
+        _, output, _ = self.call("--zoneinfo", "zoneinfo", *PAGE, *words)
+        self.assertIn("  nr_kernel_stack   1928  off by at most 40 KiB: 1888 to 1968, by drift\n", output)
+        self.assertIn("  nr_file_hugepages    3  off by at most 40 huge pages: 0 to 43, by drift\n", output)
+        _, families = self.metrics(*words)
+        self.assertEqual(families["vmstat_kernel_stack_kibibytes"],
+                         'vmstat_kernel_stack_kibibytes{node="0"} 1928\n')
+        self.assertEqual(families["vmstat_dirtied_pages"], 'vmstat_dirtied_pages_total{node="0"} 90\n')
+        self.assertEqual(families["vmstat_file_hugepages"], 'vmstat_file_hugepages{node="0"} 3\n')
+
+    def test_items_that_are_refused(self):
+        zoneinfo = self.file("zoneinfo", SMALL.replace("nr_dirtied ", "nr_later "))
+        rows = [
+            ("zoneinfo: 'numa_hit' counts events, and no law says how far such a number can be off", "numa_hit"),
+            ("zoneinfo: the unit of 'nr_later' isn't known", "nr_later"),
+            ("zoneinfo: has no item 'nr_dirtied'", "nr_dirtied"),
+            ("zoneinfo: has no item '\\x1b'", "\x1b"),
+        ]
+        for message, item in rows:
+            with self.subTest(item):
+                self.fails("monitor: " + message, "--zoneinfo", zoneinfo, "--item", item)
+
+    def test_the_units_of_all_items_that_were_recorded(self):
+        info = read_zoneinfo((SAMPLES / "zoneinfo").read_text(), "zoneinfo")
+        found = {item for items_of in (info.nodes[0], info.populated[0].items) for item in items_of}
+        self.assertEqual({item for item in found if item not in items.UNITS},
+                         {item for item in found if items.counts_events(item)})
 
     def test_counters(self):
         found = self.look(SMALL, "--item", "nr_kernel_stack", "--item", "nr_mlock", vmstat=VMSTAT)
         self.assertEqual([list(place["counters"]) for place in found["zones"] + found["nodes"]],
                          [["nr_mlock"], ["nr_mlock"], ["nr_kernel_stack"]])
         self.assertEqual(found["zones"][1]["watermarks"]["min"]["free_pages"], "surely above")
-        self.assertEqual(list(found["all_nodes"]), ["nr_mlock"])
+        self.assertEqual(list(found["all_nodes"]), ["nr_mlock", "nr_kernel_stack"])
 
     def test_assumptions(self):
         def assumed(*options, **settings):
@@ -167,6 +269,7 @@ class MonitorTest(ToolTest):
         self.assertIn("Only these 2 CPUs", assumed())
         self.assertIn("in transit aren't counted", assumed())
         self.assertIn(larger, assumed())
+        self.assertIn("for these 2 CPUs, for pages of 4096 bytes, and for the larger of the zone's managed", assumed())
         self.assertNotIn(larger, assumed("--strict"))
         self.assertNotIn(larger, assumed(thresholds=(None, None)))
         self.assertNotIn(size, assumed("--cpus", "128"))
@@ -181,7 +284,7 @@ class MonitorTest(ToolTest):
         self.assertLessEqual(set(monitor.LAWS), set(re.findall(r"\w+", " ".join(fields))))
 
     def test_text(self):
-        words = ["--zoneinfo", self.file("zoneinfo", SMALL), "--vmstat", self.file("vmstat", VMSTAT)]
+        words = ["--zoneinfo", self.file("zoneinfo", SMALL), "--vmstat", self.file("vmstat", VMSTAT), *PAGE]
         status, output, _ = self.call(*words)
         self.assertEqual(status, 0)
         self.assertTrue(output.startswith(TEXT), output)
@@ -190,11 +293,14 @@ class MonitorTest(ToolTest):
 
     def metrics(self, *options):
         """What the tool prints for a collector, and its samples by family."""
-        status, output, errors = self.call("--zoneinfo", self.file("zoneinfo", SMALL),
+        status, output, errors = self.call("--zoneinfo", self.file("zoneinfo", SMALL), *PAGE,
                                            "--vmstat", self.file("vmstat", VMSTAT), "--openmetrics", *options)
         self.assertEqual(status, 0, errors)
-        families = re.findall(r"# HELP (\w+) .*\.\n# TYPE \1 gauge\n(?:# UNIT \1 pages\n)?((?:\1(?:\{.*\})? \d+\n)+)",
-                              output)
+        found = re.findall(r"# HELP (\w+) .*\.\n# TYPE \1 (gauge|counter)\n(?:# UNIT \1 (\w+)\n)?"
+                           r"((?:\1(_total)?(?:\{.*\})? \d+\n)+)", output)
+        for name, kind, unit, _, total in found:
+            self.assertEqual((kind == "counter", name.endswith(unit)), (bool(total), True))
+        families = [(name, samples) for name, _, _, samples, _ in found]
         self.assertEqual(len(families), output.count("# HELP"))
         self.assertEqual(len({name for name, _ in families}), len(families))
         self.assertTrue(output.endswith("\n# EOF\n"))
@@ -204,8 +310,8 @@ class MonitorTest(ToolTest):
         output, families = self.metrics("--item", "nr_free_pages", "--item", "nr_dirty")
         self.assertTrue(output.startswith(METRICS), output)
         self.assertEqual(families["vmstat_system_free_pages"], "vmstat_system_free_pages 4000\n")
-        self.assertEqual(families["vmstat_system_free_pages_uncertainty_pages"],
-                         "vmstat_system_free_pages_uncertainty_pages 48\n")
+        self.assertEqual(families["vmstat_system_free_uncertainty_pages"],
+                         "vmstat_system_free_uncertainty_pages 48\n")
         sides = {'node="0",zone="DMA",watermark="min"': (0, 0), 'node="0",zone="DMA",watermark="high"': (1, 0)}
         for labels, (above, below) in sides.items():
             self.assertIn(f"vmstat_free_pages_surely_above{{{labels}}} {above}\n", output)
@@ -232,21 +338,42 @@ class MonitorTest(ToolTest):
                 self.fails("is no list of CPUs", "--json")
 
     def test_a_machine_without_permission(self):
-        denied = PermissionError(13, "Permission denied", "/proc/zoneinfo")
-        with mock.patch("vmtrace.open_text", side_effect=denied):
-            self.fails("monitor: /proc/zoneinfo: Permission denied")
-            self.fails("monitor: /proc/zoneinfo: Permission denied", "--watch", "1", "--json")
+        denied = PermissionError(13, "Permission denied", "/proc/vmstat")
+        with mock.patch("vmtrace.opened", side_effect=denied):
+            self.fails("monitor: /proc/vmstat: Permission denied")
+            self.fails("monitor: /proc/vmstat: Permission denied", "--watch", "1", "--json")
+
+    def test_a_machine_that_changes_while_it_is_read(self):
+        """It is read again, and refused only if that goes on. Between two readings of vmstat a number may move."""
+        far = VMSTAT.replace("nr_free_pages 4000", "nr_free_pages 5000")
+        rows = [
+            ("at first", [far, far, VMSTAT, VMSTAT], 4000, None),
+            ("while it is read", [VMSTAT, far], 5000, None),
+            ("nine times", [far, far] * 9 + [VMSTAT, VMSTAT], 4000, None),
+            ("always", [far] * 20, None, "monitor: vmstat:1: nr_free_pages is 5000, and 4000 in all of zoneinfo"),
+        ]
+        for what, readings, value, message in rows:
+            with self.subTest(what), self.live(SMALL, "0-1\n"), mock.patch("time.sleep"):
+                texts = iter(readings)
+                whole = vmtrace.text_of
+                with mock.patch("vmtrace.text_of", lambda name: next(texts) if name == "vmstat" else whole(name)):
+                    if message:
+                        self.fails(message, "--json")
+                    else:
+                        view = json.loads(self.call("--json")[1])
+                        self.assertEqual(view["all_nodes"]["nr_free_pages"]["value"], value)
+                self.assertIsNone(next(texts, None))
 
     def test_watching(self):
         """The largest threshold of all looks counts."""
-        looks = iter([zone(thresholds=(20, 20)), None])
+        looks = iter([SMALL, None])
 
         def sleep(_):
             if next(looks) is None:
                 raise KeyboardInterrupt
-            self.file("zoneinfo", zone(thresholds=(20, 20)))
+            self.file("zoneinfo", SMALL)
 
-        with self.live(zone(thresholds=(30, 30)), "0-1"), mock.patch("time.sleep", sleep):
+        with self.live(SMALL.replace("threshold: 4", "threshold: 30"), "0-1"), mock.patch("time.sleep", sleep):
             status, output, errors = self.call("--watch", "0.5", "--json")
         found = [json.loads(line) for line in output.splitlines()]
         self.assertEqual((status, errors, len(found)), (130, "", 2))
@@ -261,42 +388,39 @@ class MonitorTest(ToolTest):
         self.assertEqual(len(re.findall(r"^\d{4}-\d\d-\d\d \d\d:\d\d:\d\d$", output, re.M)), 2)
 
     def test_bad_zoneinfo(self):
+        """tests/test_procinfo.py has more of them."""
         rows = [
             ("zoneinfo: not the text of /proc/zoneinfo", ""),
-            ("zoneinfo: not the text of /proc/zoneinfo", "MemTotal: 16 kB\n"),
-            ("zoneinfo: not the text of /proc/zoneinfo", EMPTY),
-            ("zoneinfo: shows no CPU, so --cpus has to say how many there are", zone(thresholds=())),
-            ("zoneinfo:1: zone 0 Normal has no 'low'", zone().replace("        low      125\n", "")),
-            ("zoneinfo:1: zone 0 Normal has no 'nr_free_pages'", zone().replace("      nr_free_pages 1000\n", "")),
-            ("zoneinfo:1: zone 0 Normal has no 'start_pfn'", zone()[:zone().index("    cpu: 1")]),
             ("zoneinfo:1: zone 0 Normal has a threshold above 125", zone(thresholds=(20, 126))),
-            ("zoneinfo:4: 'x' is no number", zone(marks=("x", 1, 1))),
-            ("zoneinfo:4: '-1' is no number", zone(marks=(-1, 1, 1))),
-            ("zoneinfo:4: '99", zone(marks=("9" * 5000, 1, 1))),
-            ("zoneinfo:18: 'x' is no number", zone(thresholds=("x", 1))),
-            ("zoneinfo: node 1 has no zone with counters",
-             zone() + EMPTY.replace("Node 0", "Node 1") + "  per-node stats\n      nr_dirty 1\n"),
-            ("zoneinfo: has no counter 'nr_dirty'", zone()),
+            ("zoneinfo:1: zone 0 Normal has no 'low'", zone().replace("        low      125\n", "")),
         ]
         for message, text in rows:
             with self.subTest(message):
-                options = ["--item", "nr_dirty"] if "nr_dirty'" in message else []
-                self.fails("monitor: " + message, "--zoneinfo", self.file("zoneinfo", text), *options)
+                self.fails("monitor: " + message, "--zoneinfo", self.file("zoneinfo", text))
 
     def test_bad_files(self):
         self.file("zoneinfo", SMALL)
         self.fails("monitor: nowhere: No such file", "--zoneinfo", "nowhere")
         self.fails("monitor: nowhere: No such file", "--zoneinfo", "zoneinfo", "--vmstat", "nowhere")
-        self.fails("monitor: zoneinfo: not the text of /proc/vmstat", "--zoneinfo", "zoneinfo", "--vmstat", "zoneinfo")
+        self.fails("monitor: zoneinfo:1: 'Node 0, zone      DMA' stands where 'NAME N' is expected",
+                   "--zoneinfo", "zoneinfo", "--vmstat", "zoneinfo")
         self.fails("monitor: vmstat:1: 'x' is no number",
                    "--zoneinfo", "zoneinfo", "--vmstat", self.file("vmstat", "nr_free_pages x\n"))
         self.fails("monitor: standard input: not the text of /proc/zoneinfo", "--zoneinfo", "-")
         Path("zoneinfo.gz").write_bytes(gzip.compress(SMALL.encode())[:-30])
-        self.fails("monitor: a packed file is damaged", "--zoneinfo", "zoneinfo.gz")
+        self.fails("monitor: zoneinfo.gz: the packed file is damaged", "--zoneinfo", "zoneinfo.gz")
+
+    def test_files_without_end(self):
+        with mock.patch("vmtrace.MOST_TEXT", 1000):
+            self.fails("monitor: zoneinfo: is longer than the 1,000 bytes that are read of a file",
+                       "--zoneinfo", self.file("zoneinfo", SMALL))
 
     def test_bad_words(self):
         for words in (["--vmstat", "v"], ["--cpus", "0"], ["--cpus", "8193"], ["--cpus", "9" * 5000], ["--watch", "0"],
                       ["--watch", "x"], ["--watch", "1", "--openmetrics"], ["--watch", "1", "--zoneinfo", "-"],
+                      ["--watch", "1e10"], ["--watch", "-1"], ["--watch", "nan"], ["--page-size", "4096"],
+                      ["--zoneinfo", "z", "--page-size", "4095"], ["--zoneinfo", "z", "--apart", "1"],
+                      ["--zoneinfo", "z", "--vmstat", "v", "--apart", "-1"],
                       ["--json", "--openmetrics"], ["zoneinfo"]):
             with self.subTest(words):
                 self.fails("usage: monitor.py", *words, status=2)
@@ -343,15 +467,15 @@ class ReplayTest(ToolTest):
         looks = list(zip(found[::3], found[1::3], found[2::3]))
         self.assertEqual((len(looks), totals), (1974, [snapshot for _, snapshot, _ in looks]))
 
-        view = self.view("--zoneinfo", SAMPLES / "zoneinfo", "--vmstat", SAMPLES / "vmstat.before")
+        view = self.view("--zoneinfo", SAMPLES / "zoneinfo", "--vmstat", SAMPLES / "vmstat.before", *PAGE)
         others = sum(place.figures["nr_free_pages"].value for place in view.places if place.kind.startswith("DMA"))
         normal, = (place.figures["nr_free_pages"] for place in view.places if place.kind == "Normal")
         system = view.system["nr_free_pages"]
-        self.assertEqual((normal.off_by, system.off_by, system.value), (192, 360, normal.value + others))
+        self.assertEqual((normal.off_by, system.off_by, system.value), (216, 384, normal.value + others))
         for value, total, sum_of_zones in looks:
-            figure = monitor.Figure(value, normal.off_by, normal.laws)
+            figure = dataclasses.replace(normal, value=value)
             self.assertTrue(figure.least <= total <= figure.most)
-            whole = monitor.Figure(sum_of_zones, system.off_by, system.laws)
+            whole = dataclasses.replace(system, value=sum_of_zones)
             self.assertTrue(whole.least <= total + others <= whole.most)
             for mark in range(value - 250, value + 251, 10):
                 side = figure.against(mark)
@@ -366,7 +490,7 @@ class ReplayTest(ToolTest):
         (_, _, value), (_, _, total) = READING.findall(output)
         shown = [int(threshold) for threshold in re.findall(r"^  cpu \d+ threshold (\d+)", output, re.M)][:8]
         self.assertEqual((value, total, shown), ("5000", "4360", [3] * 8))
-        view = self.view("--zoneinfo", self.file("zoneinfo", zone("Normal", value, 8388608, shown)))
+        view = self.view("--zoneinfo", self.file("zoneinfo", zone("Normal", value, 8388608, shown)), *PAGE)
         figure = view.places[0].figures["nr_free_pages"]
         self.assertTrue(figure.least <= int(total) <= figure.most)
         self.assertEqual(figure.least, int(total))
