@@ -6,26 +6,34 @@ the watermarks, the drift mark, and the band in which the plain value can be. Po
 show what the line says, what it answered and where each zone stood then. The file asks nothing of any other machine.
 
 The numbers are those that the program prints: it replays the trace, and for each line that is read the trace up to it
-with two reports. The page goes to standard output:
+with two reports. It is the proved program once ./vozhkell has built it, or the one that --program names, such as the
+plain one of bench/replay.rs. The page goes to standard output:
 
   page.py examples/drift.vmtrace > page.html"""
-import argparse
+import interrupts  # first, for what it does
 import json
 import os
 import re
 import subprocess
 import sys
+import tempfile
+from contextlib import contextmanager
 from dataclasses import dataclass, field
 
 import drift
 import vmtrace
+from vmtrace import called
 
 HERE = os.path.dirname(os.path.abspath(__file__))
 PROGRAM = os.path.join(os.path.dirname(HERE), "crates", "vozhkell", "out", "vozhkell")
 TEMPLATE = os.path.join(HERE, "page.html")
 MOST_LINES = 5_000
 MOST_READINGS = 500
+MOST_PRINTED = 2**28
+MOST_LINE = 2**12
+TEXT = ("ascii", "surrogateescape")
 REPORTS = ("report zoneinfo", "report totals")
+DONE = re.compile(r"done accepted \d+ refused \d+")
 LANE = re.compile(r"c[0-9]{1,20}")
 PRINTED = re.compile(r"line (\d+): (.*)$")
 ZONE = re.compile(r"Node (\d+), zone (\w+)$")
@@ -78,15 +86,49 @@ def places_of(lines, header):
 
 def output_of(program, lines):
     """What the program prints of a replay of these lines."""
-    text = "".join(line + "\n" for line in lines).encode("ascii", "surrogateescape")
+    status, printed, errors = replay(program, "".join(line + "\n" for line in lines).encode(*TEXT))
+    if len(printed) > MOST_PRINTED:
+        raise vmtrace.BadInput(f"{called(program)} isn't the program: it prints more than {MOST_PRINTED:,} bytes")
+    if status not in (0, 3):
+        raise vmtrace.BadInput(f"{called(program)} replay ended with status {status}: {last_line(printed or errors)}")
+    if not DONE.fullmatch(last_line(printed)):
+        raise vmtrace.BadInput(f"{called(program)} isn't the program: with the word 'replay' it prints "
+                               f"'{last_line(printed)}' last, where 'done accepted N refused N' is expected")
+    return printed.decode(*TEXT).splitlines()
+
+
+def replay(program, text):
+    """The status of a replay of the text, and what it wrote: to standard output, up to a limit, and standard error."""
+    with tempfile.TemporaryFile() as trace, tempfile.TemporaryFile() as errors:
+        trace.write(text)
+        trace.seek(0)
+        try:
+            running = subprocess.Popen([os.path.abspath(program), "replay"], stdin=trace, stdout=subprocess.PIPE,
+                                       stderr=errors)
+        except OSError as error:
+            raise vmtrace.BadInput(f"{called(program)}: {error.strerror or error}; ./vozhkell builds the proved "
+                                   "program, and --program names another, such as out/vozhkell of docs/GUIDE.md"
+                                   ) from None
+        with running:
+            printed = running.stdout.read(MOST_PRINTED + 1)
+            if len(printed) > MOST_PRINTED:
+                running.kill()
+        errors.seek(0)
+        return running.returncode, printed, errors.read()
+
+
+def last_line(printed):
+    return vmtrace.shown(printed[-MOST_LINE:].decode(*TEXT).rstrip("\n").rpartition("\n")[2])
+
+
+@contextmanager
+def printed_by(program):
+    """What is read here was printed by the program, or the program isn't what it should be."""
     try:
-        ended = subprocess.run([program, "replay"], input=text, capture_output=True, check=False)
-    except OSError as error:
-        raise vmtrace.BadInput(f"{program}: {error.strerror or error}; ./vozhkell builds the program") from None
-    if ended.returncode not in (0, 3):
-        said = (ended.stdout or ended.stderr).decode("ascii", "replace").strip().split("\n")[-1]
-        raise vmtrace.BadInput(f"{program} replay ended with status {ended.returncode}: {said}")
-    return ended.stdout.decode("ascii").splitlines()
+        yield
+    except (LookupError, ValueError):
+        raise vmtrace.BadInput(f"{called(program)} isn't the program: its answers or its reports aren't those of "
+                               "docs/FORMATS.md") from None
 
 
 def read_zone_line(reading, zone, line):
@@ -176,14 +218,16 @@ def rows_of(shown):
 
 
 def page_of(lines, header, name, options):
-    answers, done = answers_of(output_of(options.program, lines))
-    readings = {place: reading_below(place, lines, options.program) for place in places_of(lines, header)}
+    with printed_by(options.program):
+        answers, done = answers_of(output_of(options.program, lines))
+        readings = {place: reading_below(place, lines, options.program) for place in places_of(lines, header)}
     shown = list(shown_lines(lines, header, answers))
     zones = []
     for node, kind in header.zones:
         counter = vmtrace.Counter(node, kind, options.item)
         bounds = bounds_of(lines, header, counter, answers, readings, name)
-        zones.append(chart_of(counter, header, readings, bounds, name))
+        with printed_by(options.program):
+            zones.append(chart_of(counter, header, readings, bounds, name))
     return {
         "title": os.path.basename(options.trace) if options.trace != "-" else "a trace",
         "item": options.item,
@@ -195,10 +239,10 @@ def page_of(lines, header, name, options):
 
 
 def parse(arguments):
-    parser = argparse.ArgumentParser(description=__doc__, formatter_class=argparse.RawDescriptionHelpFormatter)
+    parser = vmtrace.Parser(__doc__)
     parser.add_argument("trace", metavar="TRACE", help="the trace, - for standard input")
     parser.add_argument("--item", default=vmtrace.ZONE_ITEMS[0], help="the zone item to show")
-    parser.add_argument("--program", default=PROGRAM,
+    parser.add_argument("--program", metavar="FILE", default=PROGRAM,
                         help="the program that replays, if not the one that ./vozhkell builds")
     return parser.parse_args(arguments)
 
@@ -209,7 +253,7 @@ def main(arguments):
     lines = vmtrace.lines_of(options.trace)
     header = vmtrace.read_header(lines, name)
     if options.item not in header.items["zone"]:
-        raise vmtrace.BadInput(f"{name}: zones have no item '{options.item}'")
+        raise vmtrace.BadInput(f"{name}: zones have no item '{vmtrace.shown(options.item)}'")
     if len(lines) - header.lines > MOST_LINES:
         raise vmtrace.BadInput(f"{name}: has {len(lines) - header.lines:,} lines below 'go', and a page shows at most "
                                f"{MOST_LINES:,}")

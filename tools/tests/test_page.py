@@ -5,6 +5,7 @@ On 2 CPUs a zone of 262,144 pages has the threshold 20: so many pages of each CP
 import json
 import os
 import sys
+from unittest import mock
 
 from calls import ToolTest, vmtrace
 
@@ -121,9 +122,27 @@ class PageTest(ToolTest):
     def test_refusals(self):
         trace = self.file("trace", HEADER + BODY)
         self.fails("zones have no item 'nr_dirty'", trace, "--item", "nr_dirty")
-        self.fails("./vozhkell builds the program", trace, "--program", "missing")
+        self.fails("missing: No such file or directory; ./vozhkell builds the proved program, and --program names "
+                   "another", trace, "--program", "missing")
         self.fails("ended with status 2: line 1: NotVersion", trace, "--program",
                    self.program("#!/bin/sh\necho line 1: NotVersion\nexit 2\n"))
+        others = "its answers or its reports aren't those of docs/FORMATS.md"
+        expected = "where 'done accepted N refused N' is expected"
+        programs = [
+            ("it prints '' last, " + expected, "#!/bin/sh\n"),
+            ("it prints 'replay' last, " + expected, '#!/bin/sh\necho "$@"\n'),
+            ("it prints '\\xff\\x1b' last, " + expected, "#!/bin/sh\nprintf '\\377\\033\\n'\n"),
+            (others, "#!/bin/sh\necho done accepted 1 refused 0\n"),
+            (others, PROGRAM.replace("  nr_free_pages 1000\n", "")),
+            (others, PROGRAM.replace("pgfault 0", "pgfault x")),
+        ]
+        for message, program in programs:
+            with self.subTest(program):
+                self.fails(message, trace, "--program", self.program(program))
+        self.fails(".: Permission denied; ./vozhkell builds", trace, "--program", ".")
+        with mock.patch("page.MOST_PRINTED", 100):
+            self.fails("isn't the program: it prints more than 100 bytes", trace, "--program",
+                       self.program("#!/bin/sh\nwhile echo replay; do :; done\n"))
         self.fails("no header of a trace", self.file("none", "vmtrace 1\n"), "--program", self.program())
         self.fails("and a page shows at most 5,000", self.file("long", HEADER + "sync\n" * 5_001))
         self.fails("page: standard input:1: 'cpus 0' is no header line", "-", stdin="cpus 0\n")
