@@ -18,9 +18,10 @@ are both off by at most the figure that is printed. Where the two are further ap
 of one moment. This machine is then read again, up to ten times, with /proc/vmstat before and after /proc/zoneinfo, and
 copies are refused unless --apart allows for it.
 
-For a collector of text files:
+The first lines say where free pages are least certain, and which watermarks can't be told. For a collector of text
+files:
 
-  monitor.py --openmetrics > vmstat.new && mv vmstat.new vmstat.prom"""
+  monitor.py --openmetrics > vozhkell.new && mv vozhkell.new vozhkell.prom"""
 import interrupts  # first, for what it does
 import json
 import os
@@ -32,7 +33,9 @@ from contextlib import suppress
 from dataclasses import dataclass
 
 import vmtrace
-from items import HUGE_PAGES, KIB, PAGES, TREE_NODES, UNITS, Unit, check_item, counts_events
+from figures import BELOW, LAWS, UNKNOWN, Figure, Place, View, Watermark
+from items import PAGES, UNITS, check_item, counts_events
+from metrics import openmetrics_of
 from procinfo import FREE, ZoneInfo, count_cpus, read_vmstat, read_zoneinfo
 from vmtrace import BadInput, called
 
@@ -42,82 +45,7 @@ MAX_APART = 2**48
 PAGE_SIZES = tuple(2**shift for shift in range(12, 21))
 LOOKS, BETWEEN_LOOKS = 10, 0.01
 MARKS = ("min", "low", "high")
-METRIC_UNITS = {PAGES: "pages", HUGE_PAGES: "hugepages", KIB: "kibibytes", TREE_NODES: "nodes"}
-ABOVE, BELOW, UNKNOWN = "surely above", "surely below", "can't be told"
-LAWS = {
-    "drift": "a counter of a zone or a node is off by at most the thresholds that the CPUs used last on it, and the "
-             "amounts in transit",
-    "system_drift": "a counter of all nodes is off by at most the thresholds that the CPUs used last on it in each "
-                    "zone or node, and the amounts in transit",
-    "peaks": "no CPU uses a threshold of more than 125 pages",
-}
-
-
-@dataclass(frozen=True)
-class Figure:
-    """What the kernel shows of a counter, by how much it can be off, in what it counts, and the laws that say so."""
-
-    value: int
-    off_by: int
-    laws: tuple[str, ...]
-    unit: Unit
-
-    @property
-    def least(self):
-        """At least 0: no number is below it, and the kernel shows 0 where a value is."""
-        return max(0, self.value - self.off_by)
-
-    @property
-    def most(self):
-        return self.value + self.off_by
-
-    def against(self, pages):
-        """On which side of this many pages the truth is."""
-        return ABOVE if self.least > pages else BELOW if self.most < pages else UNKNOWN
-
-
-@dataclass(frozen=True)
-class Watermark:
-    """A watermark in pages, on which side of it the free pages are, and the laws that say so."""
-
-    pages: int
-    free: str
-    laws: tuple[str, ...]
-
-
-@dataclass(frozen=True)
-class Place:
-    """A zone, or a node as a whole where the kind is `node`; how much of a counter a CPU may keep to itself."""
-
-    node: int
-    kind: str
-    threshold: int
-    figures: dict[str, Figure]
-    watermarks: dict[str, Watermark]
-
-    @property
-    def labels(self):
-        return {"node": str(self.node)} if self.kind == "node" else {"node": str(self.node), "zone": self.kind}
-
-    def __str__(self):
-        return f"Node {self.node}, " + ("all zones" if self.kind == "node" else f"zone {self.kind}")
-
-
-@dataclass(frozen=True)
-class View:
-    """One look at a machine: its CPUs, its places, its counters of all nodes, and what is assumed."""
-
-    cpus: int
-    places: list[Place]
-    system: dict[str, Figure]
-    assumed: list[str]
-
-    @property
-    def laws(self):
-        figures = [*self.system.values()]
-        for place in self.places:
-            figures += [*place.figures.values(), *place.watermarks.values()]
-        return {law: words for law, words in LAWS.items() if any(law in figure.laws for figure in figures)}
+MOST_NAMED = 8
 
 
 @dataclass(frozen=True)
@@ -181,10 +109,10 @@ def places_of(machine, chosen, thresholds):
         off_by = machine.cpus * threshold
         free = Figure(zone.items[FREE], off_by, laws, UNITS[FREE])
         marks = {mark: Watermark(zone.pages[mark], free.against(zone.pages[mark]), laws) for mark in MARKS}
-        yield Place(zone.node, zone.kind, threshold, figures_of(zone.items, chosen, off_by, laws), marks)
+        yield Place(zone.node, zone.kind, threshold, figures_of(zone.items, chosen, off_by, laws), free, marks)
     for node, items in sorted(machine.info.nodes.items()):
         threshold, laws = thresholds.of_node(machine, node)
-        yield Place(node, "node", threshold, figures_of(items, chosen, machine.cpus * threshold, laws), {})
+        yield Place(node, "node", threshold, figures_of(items, chosen, machine.cpus * threshold, laws))
 
 
 def figures_of(items, chosen, off_by, laws):
@@ -192,13 +120,17 @@ def figures_of(items, chosen, off_by, laws):
 
 
 def system_of(items, places):
-    """The counters of all nodes, which zones have or nodes. Such a one is off by what its parts are together."""
+    """The counters of all nodes, which zones have or nodes."""
     for is_node in (False, True):
         parts = [place.figures for place in places if (place.kind == "node") == is_node]
-        for item, first in parts[0].items():
-            laws = [law for law in LAWS if any(law in part[item].laws for part in parts) and law != "drift"]
-            off_by = sum(part[item].off_by for part in parts)
-            yield item, Figure(items[item], off_by, ("system_drift", *laws), first.unit)
+        for item in parts[0]:
+            yield item, together(items[item], [part[item] for part in parts])
+
+
+def together(value, parts):
+    """The figure of all nodes, which is off by what its parts are together."""
+    laws = [law for law in LAWS if any(law in part.laws for part in parts) and law != "drift"]
+    return Figure(value, sum(part.off_by for part in parts), ("system_drift", *laws), parts[0].unit)
 
 
 def check_sums(machine, thresholds, apart):
@@ -293,10 +225,13 @@ def view_of(machine, options, thresholds):
         thresholds.take_in(zone, machine)
     if machine.readings:
         check_sums(machine, thresholds, options.apart)
-    chosen = options.item or vmtrace.ZONE_ITEMS + vmtrace.NODE_ITEMS
+    chosen = tuple(UNITS) if options.all else options.item or vmtrace.ZONE_ITEMS + vmtrace.NODE_ITEMS
     places = list(places_of(machine, chosen, thresholds))
-    system = dict(system_of(machine.readings[-1], places)) if machine.readings else {}
-    return View(machine.cpus, places, system, list(assumptions(machine, options.strict)))
+    system, free = {}, None
+    if machine.readings:
+        system = dict(system_of(machine.readings[-1], places))
+        free = together(machine.readings[-1][FREE], [place.free for place in places if place.free])
+    return View(machine.cpus, machine.page_bytes, places, system, free, list(assumptions(machine, options.strict)))
 
 
 def look(options, thresholds):
@@ -310,8 +245,31 @@ def look(options, thresholds):
     return view_of(this_machine(options), options, thresholds)
 
 
+def summary_of(view):
+    """The first lines for a reader: where free pages are least certain, and which watermarks aren't kept for sure."""
+    for worst, key in (("by share", lambda zone: zone.free.share), ("in pages", lambda zone: zone.free.off_by)):
+        zone = max(view.zones, key=key)
+        yield f"Worst {worst}: {zone}: {free_words(zone.free, view.page_bytes)}"
+    if view.free:
+        yield f"All nodes: {free_words(view.free, view.page_bytes)}"
+    marks = [(f"{zone.node} {zone.kind} {mark}", watermark.free)
+             for zone in view.zones for mark, watermark in zone.watermarks.items()]
+    for words, wanted in (("that can't be told", UNKNOWN), ("that free pages are surely below", BELOW)):
+        named = [name for name, side in marks if side == wanted]
+        more = f" and {len(named) - MOST_NAMED} more" if len(named) > MOST_NAMED else ""
+        yield f"Watermarks {words}: {', '.join(named[:MOST_NAMED]) or 'none'}{more}, of {len(marks)}"
+
+
+def free_words(free, page_bytes):
+    """Free pages, and by how much they can be off, in pages, MiB and as a share."""
+    sizes = [f" ({pages * page_bytes / 2**20:.1f} MiB)" if page_bytes else "" for pages in (free.value, free.off_by)]
+    share = f", {100 * free.share:.2f} %" if free.value else ""
+    return f"{free.value} free pages{sizes[0]}, off by at most {free.off_by}{sizes[1]}{share}"
+
+
 def text_of(view):
     """The lines for a reader."""
+    yield from summary_of(view)
     for place in view.places:
         if place.watermarks or place.figures:
             yield f"{place}: each of {view.cpus} CPUs may keep {place.threshold} pages of a counter to itself"
@@ -351,9 +309,9 @@ def table(rows):
 
 def json_of(view):
     """The view as JSON has it."""
-    return {"cpus": view.cpus, "zones": [zone_json(place) for place in view.places if place.watermarks],
-            "nodes": [place_json(place) for place in view.places if not place.watermarks],
-            "all_nodes": figures_json(view.system), "laws": view.laws, "assumed": view.assumed}
+    return {"cpus": view.cpus, "page_size": view.page_bytes or None, "zones": list(map(zone_json, view.zones)),
+            "nodes": list(map(place_json, view.nodes)), "all_nodes": figures_json(view.system), "laws": view.laws,
+            "assumed": view.assumed}
 
 
 def zone_json(place):
@@ -370,67 +328,6 @@ def figures_json(figures):
     return {item: {"value": figure.value, "unit": figure.unit.name, "cumulative": figure.unit.is_cumulative,
                    "off_by": figure.off_by, "least": figure.least, "most": figure.most, "laws": figure.laws}
             for item, figure in figures.items()}
-
-
-@dataclass(frozen=True)
-class Family:
-    """A family of metrics: its name, what it is, its unit if it has one, and its numbers with their labels."""
-
-    name: str
-    words: str
-    unit: str
-    numbers: list[tuple[dict[str, str], int]]
-    is_cumulative: bool = False
-
-    def lines(self):
-        yield f"# HELP {self.name} {self.words}"
-        yield f"# TYPE {self.name} {'counter' if self.is_cumulative else 'gauge'}"
-        if self.unit:
-            yield f"# UNIT {self.name} {self.unit}"
-        for labels, number in self.numbers:
-            told = ",".join(f'{label}="{text}"' for label, text in labels.items())
-            yield self.name + ("_total" if self.is_cumulative else "") + (f"{{{told}}}" if told else "") + f" {number}"
-
-
-def metrics_of(view):
-    """The families of the metrics."""
-    zones = [place for place in view.places if place.watermarks]
-    for item in dict.fromkeys(item for place in view.places for item in place.figures):
-        named = [(place.labels, place.figures[item]) for place in view.places if item in place.figures]
-        yield from figure_metrics("vmstat_", item, "/proc/zoneinfo", named)
-    for item, figure in view.system.items():
-        yield from figure_metrics("vmstat_system_", item, "/proc/vmstat", [({}, figure)])
-    marks = [({**zone.labels, "watermark": mark}, watermark)
-             for zone in zones for mark, watermark in zone.watermarks.items()]
-    yield Family("vmstat_watermark_pages", "A watermark of /proc/zoneinfo.", "pages",
-                 [(labels, watermark.pages) for labels, watermark in marks])
-    for side in (ABOVE, BELOW):
-        yield Family(f"vmstat_free_pages_{side.replace(' ', '_')}",
-                     f"1 where the free pages are {side} the watermark, {by_laws([mark for _, mark in marks])}, else "
-                     "0.", "", [(labels, int(watermark.free == side)) for labels, watermark in marks])
-
-
-def figure_metrics(prefix, item, file, named):
-    """The values of an item, and by how much each can be off."""
-    unit = named[0][1].unit
-    word = METRIC_UNITS[unit.name]
-    name = prefix + item.removeprefix("nr_").removesuffix(f"_{word}")
-    yield Family(f"{name}_{word}", f"{item} of {file}.", word, [(labels, figure.value) for labels, figure in named],
-                 unit.is_cumulative)
-    yield Family(f"{name}_uncertainty_{word}",
-                 f"By how much {name}_{word} can be off at most, {by_laws([figure for _, figure in named])}, without "
-                 "the amounts in transit.", word, [(labels, figure.off_by) for labels, figure in named])
-
-
-def by_laws(figures):
-    return "by " + " and ".join(law for law in LAWS if any(law in figure.laws for figure in figures))
-
-
-def openmetrics_of(view):
-    """The lines for a collector of text files."""
-    for family in metrics_of(view):
-        yield from family.lines()
-    yield "# EOF"
 
 
 def lines_of(view, options):
@@ -466,8 +363,10 @@ def parse(arguments):
                         help="how much further apart numbers of the two copies may be than at one moment")
     parser.add_argument("--cpus", metavar="N", type=vmtrace.number_in(1, MAX_CPUS), default=0,
                         help="how many CPUs there are, where that is more than zoneinfo shows")
-    parser.add_argument("--item", metavar="ITEM", action="append", default=[],
+    chosen = parser.add_mutually_exclusive_group()
+    chosen.add_argument("--item", metavar="ITEM", action="append", default=[],
                         help="print this item; may be given again; without it the sixteen that each trace has")
+    chosen.add_argument("--all", action="store_true", help="print all items whose unit is known, but for events")
     parser.add_argument("--strict", action="store_true", help="take 125 for every threshold, whatever is shown")
     parser.add_argument("--watch", metavar="SECONDS", type=pause, help="look again after so many seconds, until Ctrl-C")
     form = parser.add_mutually_exclusive_group()

@@ -17,7 +17,8 @@ from unittest import mock
 
 from calls import SAMPLES, TOOLS, ToolTest, vmtrace
 
-import items  # once the directory of the tools is known
+import figures  # once the directory of the tools is known
+import items
 import monitor
 from procinfo import read_zoneinfo
 
@@ -60,7 +61,13 @@ SMALL = (zone("DMA", 3000, 1000, (4, 4), (3005, 3000, 2990), kinds=3)
          + zone(free=1000, stats="", kinds=3) + EMPTY)
 VMSTAT = ("nr_free_pages 4000\nnr_mlock 14\nnuma_hit 11\nnr_dirty 13\nnr_kernel_stack 1928\nnr_dirtied 90\n"
           "nr_file_hugepages 3\nnr_dirty_threshold 792761\npgfault 5\n")
-TEXT = """Node 0, zone DMA: each of 2 CPUs may keep 4 pages of a counter to itself
+SUMMARY = """Worst by share: Node 0, zone Normal: 1000 free pages (3.9 MiB), off by at most 40 (0.2 MiB), 4.00 %
+Worst in pages: Node 0, zone Normal: 1000 free pages (3.9 MiB), off by at most 40 (0.2 MiB), 4.00 %
+All nodes: 4000 free pages (15.6 MiB), off by at most 48 (0.2 MiB), 1.20 %
+Watermarks that can't be told: 0 DMA min, 0 DMA low, of 6
+Watermarks that free pages are surely below: none, of 6
+"""
+TEXT = SUMMARY + """Node 0, zone DMA: each of 2 CPUs may keep 4 pages of a counter to itself
   min           3005  free pages: can't be told, by drift
   low           3000  free pages: can't be told, by drift
   high          2990  free pages: surely above, by drift
@@ -80,21 +87,37 @@ All nodes
   nr_dirty        13  off by at most 40: 0 to 53, by system_drift
 Laws
 """
-METRICS = """# HELP vmstat_free_pages nr_free_pages of /proc/zoneinfo.
-# TYPE vmstat_free_pages gauge
-# UNIT vmstat_free_pages pages
-vmstat_free_pages{node="0",zone="DMA"} 3000
-vmstat_free_pages{node="0",zone="Normal"} 1000
-# HELP vmstat_free_uncertainty_pages By how much vmstat_free_pages can be off at most, by drift, without the \
-amounts in transit.
-# TYPE vmstat_free_uncertainty_pages gauge
-# UNIT vmstat_free_uncertainty_pages pages
-vmstat_free_uncertainty_pages{node="0",zone="DMA"} 8
-vmstat_free_uncertainty_pages{node="0",zone="Normal"} 40
-# HELP vmstat_dirty_pages nr_dirty of /proc/zoneinfo.
-# TYPE vmstat_dirty_pages gauge
-# UNIT vmstat_dirty_pages pages
-vmstat_dirty_pages{node="0"} 13
+METRICS = """# HELP vozhkell_cpus How many CPUs may keep a part of each counter to themselves.
+# TYPE vozhkell_cpus gauge
+vozhkell_cpus 2
+# HELP vozhkell_page_size_bytes The size of a page.
+# TYPE vozhkell_page_size_bytes gauge
+# UNIT vozhkell_page_size_bytes bytes
+vozhkell_page_size_bytes 4096
+# HELP vozhkell_zone_threshold How much of a counter of a zone one CPU may keep to itself, in what is counted.
+# TYPE vozhkell_zone_threshold gauge
+vozhkell_zone_threshold{node="0",zone="DMA"} 4
+vozhkell_zone_threshold{node="0",zone="Normal"} 20
+# HELP vozhkell_zone_free_pages nr_free_pages of a zone, as /proc/zoneinfo shows it. The true number is at most \
+vozhkell_zone_free_uncertainty_pages from it.
+# TYPE vozhkell_zone_free_pages gauge
+# UNIT vozhkell_zone_free_pages pages
+vozhkell_zone_free_pages{node="0",zone="DMA"} 3000
+vozhkell_zone_free_pages{node="0",zone="Normal"} 1000
+# HELP vozhkell_zone_free_uncertainty_pages By how much vozhkell_zone_free_pages can be off at most, by drift, \
+without the amounts in transit.
+# TYPE vozhkell_zone_free_uncertainty_pages gauge
+# UNIT vozhkell_zone_free_uncertainty_pages pages
+vozhkell_zone_free_uncertainty_pages{node="0",zone="DMA"} 8
+vozhkell_zone_free_uncertainty_pages{node="0",zone="Normal"} 40
+# HELP vozhkell_node_threshold How much of a counter of a node one CPU may keep to itself, in what is counted.
+# TYPE vozhkell_node_threshold gauge
+vozhkell_node_threshold{node="0"} 20
+# HELP vozhkell_node_dirty_pages nr_dirty of a node, as /proc/zoneinfo shows it. The true number is at most \
+vozhkell_node_dirty_uncertainty_pages from it.
+# TYPE vozhkell_node_dirty_pages gauge
+# UNIT vozhkell_node_dirty_pages pages
+vozhkell_node_dirty_pages{node="0"} 13
 """
 
 
@@ -231,10 +254,59 @@ class MonitorTest(ToolTest):
         self.assertIn("  nr_kernel_stack   1928  off by at most 40 KiB: 1888 to 1968, by drift\n", output)
         self.assertIn("  nr_file_hugepages    3  off by at most 40 huge pages: 0 to 43, by drift\n", output)
         _, families = self.metrics(*words)
-        self.assertEqual(families["vmstat_kernel_stack_kibibytes"],
-                         'vmstat_kernel_stack_kibibytes{node="0"} 1928\n')
-        self.assertEqual(families["vmstat_dirtied_pages"], 'vmstat_dirtied_pages_total{node="0"} 90\n')
-        self.assertEqual(families["vmstat_file_hugepages"], 'vmstat_file_hugepages{node="0"} 3\n')
+        self.assertEqual(families["vozhkell_node_kernel_stack_bytes"],
+                         'vozhkell_node_kernel_stack_bytes{node="0"} 1974272\n')
+        self.assertEqual(families["vozhkell_node_kernel_stack_uncertainty_bytes"],
+                         'vozhkell_node_kernel_stack_uncertainty_bytes{node="0"} 40960\n')
+        self.assertEqual(families["vozhkell_node_dirtied_pages"], 'vozhkell_node_dirtied_pages_total{node="0"} 90\n')
+        self.assertEqual(families["vozhkell_system_dirtied_pages"], "vozhkell_system_dirtied_pages_total 90\n")
+        self.assertEqual(families["vozhkell_node_file_hugepages"], 'vozhkell_node_file_hugepages{node="0"} 3\n')
+
+    def test_the_worst_zone(self):
+        """By share, which is larger in a small zone, and in pages; a zone without free pages is the worst by share."""
+        rows = [
+            ("a small zone", zone("DMA", 10, 1000, (4, 4), kinds=2) + zone(free=9000, stats="", kinds=2), PAGE,
+             "Worst by share: Node 0, zone DMA: 10 free pages (0.0 MiB), off by at most 8 (0.0 MiB), 80.00 %\n"
+             "Worst in pages: Node 0, zone Normal: 9000 free pages (35.2 MiB), off by at most 40 (0.2 MiB), 0.44 %\n"
+             "Watermarks that can't be told: none, of 6\n"
+             "Watermarks that free pages are surely below: 0 DMA min, 0 DMA low, 0 DMA high, of 6\nNode 0, zone DMA:"),
+            ("no free pages", zone(free=0) + zone(free=1, node=1), [],
+             "Worst by share: Node 0, zone Normal: 0 free pages, off by at most 250\n"),
+            ("many watermarks", "".join(zone(node=node, free=125) for node in range(4)), PAGE,
+             "can't be told: 0 Normal min, 0 Normal low, 0 Normal high, 1 Normal min, 1 Normal low, 1 Normal high, "
+             "2 Normal min, 2 Normal low and 4 more, of 12\n"),
+        ]
+        for what, zoneinfo, options, wanted in rows:
+            with self.subTest(what):
+                status, output, errors = self.call("--zoneinfo", self.file("zoneinfo", zoneinfo), *options)
+                self.assertEqual((status, errors), (0, ""))
+                self.assertIn(wanted, output)
+
+    def test_all_items(self):
+        found = self.look(SMALL, "--all", vmstat=VMSTAT)
+        self.assertEqual(list(found["all_nodes"]), ["nr_free_pages", "nr_mlock", "nr_dirty", "nr_kernel_stack",
+                                                    "nr_dirtied", "nr_file_hugepages"])
+        self.assertEqual((found["cpus"], found["page_size"]), (2, 4096))
+        self.assertIsNone(self.look(SMALL, page=[])["page_size"])
+
+    def test_the_documented_keys(self):
+        """FORMATS names each key of the JSON, and each word in the names of metrics."""
+        text = (TOP / "docs" / "FORMATS.md").read_text(encoding="utf-8").split("## What the monitor")[-1]
+
+        def keys(value):
+            if isinstance(value, dict):
+                for key, inner in value.items():
+                    if key not in {*items.UNITS, *figures.LAWS}:
+                        yield key
+                    yield from keys(inner)
+            for inner in value if isinstance(value, list) else ():
+                yield from keys(inner)
+
+        for key in set(keys(self.look(SMALL, "--all", vmstat=VMSTAT))) - {*monitor.MARKS}:
+            self.assertIn(f"`{key}`", text)
+        for name in self.metrics()[1]:
+            if not re.search("_(zone|node|system)_.*_pages$", name) or "watermark" in name:
+                self.assertIn(f"`{name}`", text)
 
     def test_items_that_are_refused(self):
         zoneinfo = self.file("zoneinfo", SMALL.replace("nr_dirtied ", "nr_later "))
@@ -281,7 +353,7 @@ class MonitorTest(ToolTest):
     def test_laws_are_those_of_the_documents(self):
         promises = (TOP / "crates" / "vms_core" / "README.md").read_text(encoding="utf-8")
         fields = re.findall(r"By .*?`specs/Laws\.antt`\s\((.*?)\)", promises, re.S)
-        self.assertLessEqual(set(monitor.LAWS), set(re.findall(r"\w+", " ".join(fields))))
+        self.assertLessEqual(set(figures.LAWS), set(re.findall(r"\w+", " ".join(fields))))
 
     def test_text(self):
         words = ["--zoneinfo", self.file("zoneinfo", SMALL), "--vmstat", self.file("vmstat", VMSTAT), *PAGE]
@@ -309,13 +381,13 @@ class MonitorTest(ToolTest):
     def test_metrics(self):
         output, families = self.metrics("--item", "nr_free_pages", "--item", "nr_dirty")
         self.assertTrue(output.startswith(METRICS), output)
-        self.assertEqual(families["vmstat_system_free_pages"], "vmstat_system_free_pages 4000\n")
-        self.assertEqual(families["vmstat_system_free_uncertainty_pages"],
-                         "vmstat_system_free_uncertainty_pages 48\n")
+        self.assertEqual(families["vozhkell_system_free_pages"], "vozhkell_system_free_pages 4000\n")
+        self.assertEqual(families["vozhkell_system_free_uncertainty_pages"],
+                         "vozhkell_system_free_uncertainty_pages 48\n")
         sides = {'node="0",zone="DMA",watermark="min"': (0, 0), 'node="0",zone="DMA",watermark="high"': (1, 0)}
         for labels, (above, below) in sides.items():
-            self.assertIn(f"vmstat_free_pages_surely_above{{{labels}}} {above}\n", output)
-            self.assertIn(f"vmstat_free_pages_surely_below{{{labels}}} {below}\n", output)
+            self.assertIn(f"vozhkell_zone_free_surely_above{{{labels}}} {above}\n", output)
+            self.assertIn(f"vozhkell_zone_free_surely_below{{{labels}}} {below}\n", output)
         self.assertIn("by drift and peaks,", self.metrics("--strict")[0])
 
     def test_metrics_are_what_promtool_takes(self):
@@ -384,7 +456,7 @@ class MonitorTest(ToolTest):
         with self.live(SMALL, "0-1"), mock.patch("time.sleep", side_effect=[None, KeyboardInterrupt]):
             status, output, errors = self.call("--watch", "1")
         self.assertEqual((status, errors), (130, ""))
-        self.assertEqual((output.count("Assumed\n"), output.count("Node 0, zone DMA:")), (1, 2))
+        self.assertEqual((output.count("Assumed\n"), output.count("\nNode 0, zone DMA:")), (1, 2))
         self.assertEqual(len(re.findall(r"^\d{4}-\d\d-\d\d \d\d:\d\d:\d\d$", output, re.M)), 2)
 
     def test_bad_zoneinfo(self):
@@ -479,7 +551,7 @@ class ReplayTest(ToolTest):
             self.assertTrue(whole.least <= total + others <= whole.most)
             for mark in range(value - 250, value + 251, 10):
                 side = figure.against(mark)
-                self.assertTrue(side == monitor.UNKNOWN or (side == monitor.ABOVE) == (total > mark))
+                self.assertTrue(side == figures.UNKNOWN or (side == figures.ABOVE) == (total > mark))
         self.assertGreater(max(abs(value - total) for value, total, _ in looks), 48)
 
     def test_memory_pressure(self):
