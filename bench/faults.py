@@ -165,7 +165,7 @@ class Trials:
         """A trace of bench/rows with what is written there of its answer."""
         rows = os.path.join(TOP, "bench", "rows")
         with open(os.path.join(rows, "statuses")) as statuses:
-            status = int(dict(line.split() for line in statuses)[name])
+            status = int(dict(line.split()[:2] for line in statuses)[name])
         with open(os.path.join(rows, name + (".vmgroups" if command == "groups" else ".vmtrace")), "rb") as trace, \
                 open(os.path.join(rows, name + ".out"), "rb") as out:
             return self.call(command, trace.read(), status, out.read())

@@ -11,7 +11,7 @@ from large_rows import largest_report
 
 def main():
     version, count = (int(word) for word in sys.argv[1:3])
-    lines, _, _ = largest_report(version, 64 * version)
+    lines = largest_report(version, 64 * version).lines
     sys.stdout.writelines(line + "\n" for line in lines + lines[-1:] * (count - 1))
 
 
