@@ -1,14 +1,10 @@
-ghost use Rattle.std.specs.Prelude.{◌≡◌, ◌≤◌, All, IfOk};
+ghost use Rattle.std.specs.Prelude.{◌≡◌, ◌≤◌};
 ghost use Rattle.vms_base.specs.Common.{IsValidSize, normal_threshold_of};
 ghost use Rattle.vms_calc.specs.Common.{IsThresholdRule};
 
-use std::alloc::Global;
 use std::process::Abort;
-use std::test::Fail;
-use vms_base::{Header, Layout, PlaceId, Row, ZoneKind, ZoneName, ZoneSize};
-use vms_calc::{
-    Rule, Rules, cover_mark, linux_mark, normal_threshold, pressure_threshold, reserve, zone_marks,
-};
+use vms_base::ZoneSize;
+use vms_calc::{Rule, Rules, cover_mark, linux_mark, normal_threshold, pressure_threshold};
 
 /// A size that is seen to be valid.
 fn size(rt: &impl Abort, managed: u64, min: u64, low: u64, high: u64) -> ZoneSize
@@ -146,148 +142,6 @@ fn marks(rt: HostRuntime) {
         let answer = cover_mark(&size, linux, hidden);
         assert_eq!(rt; answer, mark, "{min} {low} {high}, {linux}, {hidden}");
     }
-}
-
-#[test]
-fn watermarks(rt: HostRuntime) {
-    // KiB, the scale, the zone's pages, all pages, and the marks
-    for (kbytes, scale, managed, total, min, low, high) in [
-        (4096, 10, 262144, 1048576, 256, 518, 780),
-        (4096, 10, 786432, 1048576, 768, 1554, 2340),
-        (0, 1, 1, 1, 0, 0, 0),
-        (28, 1, 1, 1, 7, 8, 9),
-        (3, 10, 1000, 1000, 0, 1, 2),
-        (4, 10, 999, 1000, 0, 0, 0),
-        (0, 3000, 3, 3, 0, 0, 0),
-        (0, 3000, 4, 4, 0, 1, 2),
-        (67584, 10, 4194304, 4194304, 16896, 21120, 25344),
-        (1 << 40, 1, 1, 1, 274877906944, 343597383680, 412316860416),
-        (
-            1 << 40,
-            3000,
-            1 << 40,
-            1 << 40,
-            274877906944,
-            604731395276,
-            934584883608,
-        ),
-        (
-            1 << 40,
-            3000,
-            1 << 40,
-            1 << 44,
-            17179869184,
-            347033357516,
-            676886845848,
-        ),
-        // Linux's `int` holds no 2^31 KiB, and its division cuts the total to 0 and 1.
-        (1 << 31, 1, 1000, 1000, 536870912, 671088640, 805306368),
-        (1 << 20, 10, 1 << 31, 1 << 32, 131072, 2278555, 4426038),
-        (4096, 1, 1 << 32, 4294967297, 1023, 430519, 860015),
-    ] {
-        assert!(rt; kbytes <= 1 << 40 && 1 <= scale && scale <= 3000);
-        assert!(rt; 1 <= managed && managed <= 1 << 40 && managed <= total && total <= 1 << 44);
-        let size = zone_marks(kbytes, scale, managed, total);
-        assert_eq!(rt;
-            size,
-            ZoneSize {
-                managed,
-                min,
-                low,
-                high,
-            },
-            "{kbytes} KiB, scale {scale}, {managed} of {total}"
-        );
-    }
-}
-
-/// A header of zones with these pages, and no counter that has a base.
-fn header(alloc: Global, zones: &[ZoneName], sizes: &[ZoneSize]) -> Result<Header, Fail>
-    requires nodes { All (λ zone. zone.node ≤ 15) zones.now }
-    requires sizes { All IsValidSize sizes.now }
-    ensures { IfOk result (λ header. header.sizes ≡ sizes.now) }
-{
-    Ok(Header {
-        layout: Layout::make(zones, 1)?,
-        sizes: Row::from_slice(alloc, sizes)?,
-        bases: Row::filled(alloc, 0, 0)?,
-        counters: Row::make(Vec::new(alloc)),
-        items: Row::make(Vec::new(alloc)),
-    })
-}
-
-#[test]
-fn reserves(rt: HostRuntime) -> Result<(), Fail> {
-    let zones = [
-        ZoneName {
-            node: 0,
-            kind: ZoneKind::Dma32,
-        },
-        ZoneName {
-            node: 0,
-            kind: ZoneKind::Normal,
-        },
-        ZoneName {
-            node: 1,
-            kind: ZoneKind::Dma,
-        },
-        ZoneName {
-            node: 1,
-            kind: ZoneKind::Dma32,
-        },
-        ZoneName {
-            node: 1,
-            kind: ZoneKind::Normal,
-        },
-        ZoneName {
-            node: 1,
-            kind: ZoneKind::Movable,
-        },
-        ZoneName {
-            node: 2,
-            kind: ZoneKind::Normal,
-        },
-        ZoneName {
-            node: 2,
-            kind: ZoneKind::Movable,
-        },
-    ];
-    let sizes = [
-        size(&rt, 262144, 0, 0, 0),
-        size(&rt, 786432, 0, 0, 0),
-        size(&rt, 3840, 0, 0, 0),
-        size(&rt, 262144, 0, 0, 0),
-        size(&rt, 786432, 0, 0, 0),
-        size(&rt, 65536, 0, 0, 0),
-        size(&rt, 1 << 40, 0, 0, 0),
-        size(&rt, 63, 0, 0, 0),
-    ];
-    let header = header(rt.alloc(), &zones, &sizes)?;
-    // the place, and what is kept back by zone index
-    for (place, pages) in [
-        (0, [0, 0, 3072, 3072]),
-        (1, [0, 0, 0, 0]),
-        (2, [0, 1024, 4096, 4352]),
-        (3, [0, 0, 3072, 3328]),
-        (4, [0, 0, 0, 2048]),
-        (5, [0, 0, 0, 0]),
-        (6, [0, 0, 0, 1]),
-        (7, [0, 0, 0, 0]),
-    ] {
-        assert!(rt; place < header.layout.zones().len());
-        let zone = PlaceId {
-            number: place as u32,
-        };
-        for highest in 0..4 {
-            let answer = reserve(&header, zone, highest);
-            assert_eq!(rt;
-                answer,
-                pages[highest as usize],
-                "zone {place} up to {highest}"
-            );
-        }
-    }
-    Ok(())
 }
 
 /// What stored rules answer by the normal one.

@@ -1,6 +1,5 @@
-use std::alloc::Global;
 use std::test::Fail;
-use vms_gen::{MadeSource, Numbers, numbers_named};
+use vms_gen::{MadeSource, Numbers};
 use vms_io::Source;
 
 /// The text of the numbers 1, 1 and 1.
@@ -13,14 +12,6 @@ go
 c0 mod 0 Normal nr_zone_unevictable 19
 report totals
 ";
-
-fn owned(alloc: Global, words: &[&str]) -> Result<Vec<String>, Fail> {
-    let mut owned = Vec::new(alloc);
-    for word in words {
-        owned.push(String::from_str(alloc, word)?)?;
-    }
-    Ok(owned)
-}
 
 #[test]
 fn makes_one_line(rt: HostRuntime) -> Result<(), Fail> {
@@ -43,39 +34,5 @@ fn makes_one_line(rt: HostRuntime) -> Result<(), Fail> {
         text.extend_from_slice(&piece[..count.min(3)])?;
     }
     assert_eq!(rt; text.as_slice(), ONE_LINE.as_bytes());
-    Ok(())
-}
-
-#[test]
-fn words_give_numbers(rt: HostRuntime) -> Result<(), Fail> {
-    let least = Numbers {
-        seed: 0,
-        cpus: 1,
-        lines: 1,
-    };
-    let most = Numbers {
-        seed: u64::MAX,
-        cpus: 64,
-        lines: 900_000,
-    };
-    let rows: [(&[&str], Option<Numbers>); 13] = [
-        (&["gen", "0", "1", "1"], Some(least)),
-        (&["gen", "18446744073709551615", "64", "900000"], Some(most)),
-        (&["gen", "18446744073709551616", "64", "900000"], None),
-        (&["gen", "00", "1", "1"], None),
-        (&["gen", "-1", "1", "1"], None),
-        (&["gen", "0", "0", "1"], None),
-        (&["gen", "0", "65", "1"], None),
-        (&["gen", "0", "1", "0"], None),
-        (&["gen", "0", "1", "900001"], None),
-        (&["gen", "0", "1", "01"], None),
-        (&["gen", "0", "1"], None),
-        (&["gen", "0", "1", "1", "1"], None),
-        (&["run", "0", "1", "1"], None),
-    ];
-    for (words, numbers) in rows {
-        let owned = owned(rt.alloc(), words)?;
-        assert_eq!(rt; numbers_named(owned.as_slice()), numbers, "{words:?}");
-    }
     Ok(())
 }

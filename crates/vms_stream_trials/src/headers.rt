@@ -17,18 +17,6 @@ counter gauge
 go
 ";
 
-/// Four CPUs and two zones of one node: 100 and 200 free pages, and 5 and 7 pages of two other counters.
-pub(crate) const TWO_ZONES: &str = "vmtrace 1
-cpus 4
-zone 0 DMA32 262144 100 125 150
-zone 0 Normal 32768 10 200 300
-base 0 DMA32 nr_free_pages 100
-base 0 Normal nr_free_pages 200
-base 0 Normal nr_mlock 5
-base 0 node nr_inactive_anon 7
-go
-";
-
 /// The header of a text.
 pub(crate) fn header<R: AllocGlobal + Abort>(rt: &R, text: &str) -> Result<Header, Fail>
     ensures { IfOk result (λ header. IsHeader header) }

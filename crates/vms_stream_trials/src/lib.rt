@@ -1,5 +1,5 @@
-//! Trials of the crates between the grammar and the commands: devices of the standard library, scripts and their
-//! totals, and the start of a run.
+//! Trials of the crates between the grammar and the commands: devices of the standard library, and the totals of what a
+//! scripter gave.
 #![tactic(auto)]
 
 #[cfg(test)]
@@ -8,5 +8,3 @@ mod devices;
 mod headers;
 #[cfg(test)]
 mod scripts;
-#[cfg(test)]
-mod starts;

@@ -1,78 +1,11 @@
-ghost use Rattle.std.specs.Prelude.{◌≡◌, ◌++◌, ◌+◌, ◌<◌, ◌≤◌, [], ◌∷◌, All, List, IfOk, vec_len};
-ghost use Rattle.vms_world.specs.Common.{IsHeader, Item, Gave, SomeScripter, ArePlainTotals};
+ghost use Rattle.std.specs.Prelude.{◌≡◌, ◌++◌, [], ◌∷◌, List, IfOk};
+ghost use Rattle.vms_world.specs.Common.{IsHeader, Item, Gave, ArePlainTotals};
 
 use crate::headers::{ONE_ZONE, header};
 use std::alloc::Global;
 use std::test::Fail;
-use vms_base::{CpuId, Header, Memory};
-use vms_line::{Boundary, Lane, LineCause};
-use vms_script::{Fed, FeedError, PageTotals, PhaseScript, Scripter, plain_totals};
-
-/// What a line came to, and the phase that it ended.
-#[derive(Drop)]
-struct Step {
-    fed: Result<Fed, FeedError>,
-    ended: Option<PhaseScript>,
-}
-
-/// Feeds a line whose number is above those of the lines that the scripter holds, and takes the phase that it ends.
-fn feed(scripter: &mut Scripter, header: &Header, number: u32, line: &str) -> Step
-    requires header { IsHeader header.now }
-    requires scripter { SomeScripter header.now scripter.old }
-    requires number { All (λ item. item.number < number) scripter.old.items.items }
-    requires few { vec_len scripter.old.items < 1000000 }
-    ensures scripter { SomeScripter header.now scripter.new }
-    ensures number { All (λ item. item.number < number + 1) scripter.new.items.items }
-    ensures few { vec_len scripter.new.items ≤ vec_len scripter.old.items + 1 }
-{
-    let fed = scripter.feed(header, number, line.as_bytes());
-    match fed {
-        Ok(what) => match what {
-            Fed::Boundary(_) => Step {
-                fed,
-                ended: Some(scripter.take_phase()),
-            },
-            Fed::Kept => Step { fed, ended: None },
-            Fed::Blank => Step { fed, ended: None },
-        },
-        Err(_) => Step { fed, ended: None },
-    }
-}
-
-#[test]
-fn collects_the_lines_of_a_phase(rt: HostRuntime) -> Result<(), Fail> {
-    let header = header(&rt, ONE_ZONE)?;
-    let mut scripter = Scripter::make(rt.alloc(), &header)?;
-    let mut number = 1;
-    let mut ended = None;
-    for (line, want) in [
-        ("c0 inc 0 Normal nr_free_pages", Ok(Fed::Kept)),
-        ("# a remark", Ok(Fed::Blank)),
-        ("online 1", Err(FeedError::Refused(LineCause::NotDead))),
-        ("c1 dec 0 Normal nr_free_pages", Ok(Fed::Kept)),
-        (
-            "offline 1",
-            Ok(Fed::Boundary(Boundary::Offline(CpuId { number: 1 }))),
-        ),
-    ] {
-        let step = feed(&mut scripter, &header, number, line);
-        assert_eq!(rt; step.fed, want, "at {line}");
-        ended = step.ended;
-        number += 1;
-    }
-    assert!(rt; ended.is_some());
-    if let Some(phase) = ended {
-        assert_eq!(rt; phase.len(), 2);
-        assert_eq!(rt; phase.as_slice().first().map(|item| item.number), Some(1));
-        assert_eq!(rt; phase.as_slice().last().map(|item| item.number), Some(4));
-        let lane = phase.lane_script(rt.alloc(), Lane::Cpu(CpuId { number: 1 }))?;
-        assert_eq!(rt; lane.len(), 1);
-        assert_eq!(rt; lane.as_slice().first().map(|item| item.number), Some(4));
-        assert_eq!(rt; phase.count_of(Lane::Control), 0);
-    }
-    assert!(rt; scripter.take_phase().is_empty());
-    Ok(())
-}
+use vms_base::{Header, Memory};
+use vms_script::{FeedError, PageTotals, PhaseScript, Scripter, plain_totals};
 
 /// The next phase of a scripter that holds no line, which has this lane line alone.
 fn phase_of(scripter: &mut Scripter, header: &Header, line: &str) -> Result<PhaseScript, FeedError>

@@ -1,4 +1,4 @@
-use crate::devices::{Devices, SOUND};
+use crate::devices::Devices;
 use std::alloc::Global;
 use std::sync::Wait;
 use std::thread::Threads;
@@ -17,9 +17,6 @@ pub struct Trial<'a> {
     pub status: Status,
     pub output: &'a [&'a str],
 }
-
-/// The most bytes of a read and of a write.
-const PIECES: [(usize, usize); 5] = [(65536, 65536), (1, 8), (7, 1), (64, 8), (7, 7)];
 
 /// Runs what the words name on a text: its status, and the devices as it left them.
 pub fn run<R: Threads + Wait + Sync>(
@@ -64,44 +61,6 @@ pub fn run_at<R: Threads + Wait + Sync, G: Gate>(
     Ok((status, src, out))
 }
 
-/// Whether a trial has the status and the output that are due, whatever the pieces of its text. A trace that is
-/// replayed is run too, where none of its phases has lines of two lanes: its output can't be another one then.
-pub fn answers<R: Threads + Wait + Sync>(
-    rt: &R,
-    alloc: Global,
-    trial: &Trial<'_>,
-) -> Result<bool, Memory> {
-    if !answers_in_pieces(rt, alloc, trial)? {
-        return Ok(false);
-    }
-    if !matches!(trial.words, ["replay"]) || !are_phases_of_one_lane(alloc, trial.text)? {
-        return Ok(true);
-    }
-    let ran = Trial {
-        words: &["run"],
-        ..*trial
-    };
-    answers_in_pieces(rt, alloc, &ran)
-}
-
-fn answers_in_pieces<R: Threads + Wait + Sync>(
-    rt: &R,
-    alloc: Global,
-    trial: &Trial<'_>,
-) -> Result<bool, Memory> {
-    for (read, write) in PIECES {
-        let devices = Devices {
-            read,
-            write,
-            ..SOUND
-        };
-        if !answers_on(rt, alloc, trial, devices)? {
-            return Ok(false);
-        }
-    }
-    Ok(true)
-}
-
 /// Whether a trial has the status and the output that are due, on these devices.
 pub fn answers_on<R: Threads + Wait + Sync>(
     rt: &R,
@@ -113,31 +72,4 @@ pub fn answers_on<R: Threads + Wait + Sync>(
     let output = trial.output.concat(alloc)?;
     let (status, _src, out) = run(rt, alloc, trial.words, text.as_bytes(), devices)?;
     Ok(status == trial.status && out.bytes() == output.as_bytes())
-}
-
-/// Whether no phase of a text has lines of two lanes. Lines that are refused count, and of boundary lines those alone
-/// that are never refused.
-fn are_phases_of_one_lane(alloc: Global, text: &[&str]) -> Result<bool, Memory> {
-    let text = text.concat(alloc)?;
-    let mut lane: Option<&str> = None;
-    for line in text.as_str().split('\n') {
-        match line.split_whitespace().next() {
-            Some("sync" | "flush" | "report") => lane = None,
-            Some(word) if is_lane(word) => match lane {
-                Some(other) if other != word => return Ok(false),
-                _ => lane = Some(word),
-            },
-            _ => {}
-        }
-    }
-    Ok(true)
-}
-
-/// Whether a word is that of a lane: `k`, or `c` and a digit.
-fn is_lane(word: &str) -> bool {
-    match word.as_bytes() {
-        [b'k'] => true,
-        [b'c', digit, ..] => digit.is_ascii_digit(),
-        _ => false,
-    }
 }
