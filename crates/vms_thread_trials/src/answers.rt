@@ -1,18 +1,26 @@
-ghost use Rattle.vms_call_trials.specs.Common.{IsIdle};
-ghost use Rattle.vms_seats.specs.Common.{IsFrom};
-ghost use Rattle.vms_thread_trials.specs.Machines.{IsNarrow};
+ghost use Rattle.vms_calls.specs.Common.{IsThresholdRule};
 
-use crate::openings::{Passes, Running, start};
-use crate::threads::inc;
 use std::alloc::Global;
 use std::sync::atomic::{AtomicU64, Ordering};
 use std::test::Fail;
 use std::thread::{Threads, join};
-use vms_base::PlaceId;
-use vms_look::{FreePages, free_pages};
-use vms_words::{ControlPass, CpuPass, PageTable};
+use vms_base::{CounterId, CpuId, PlaceId, WaterMark, ZoneSize};
+use vms_calc::{Rule, Rules, normal_threshold, pressure_threshold};
+use vms_calls::Verdict;
+use vms_counters::{CallError, Counters, Handle};
+use vms_header::parse_header;
 
-/// What a test asks for: it answers yes where there are more free pages.
+/// Two CPUs and two zones of a node. The first zone keeps a 256th of the second one's pages, 14,850, from requests that
+/// may use both.
+const TWO_ZONES: &str =
+    "vmtrace 1\ncpus 2\nzone 0 DMA32 262144 100 125 150\nzone 0 Normal 3801600 100 125 150\ngo\n";
+
+/// The first zone, and its free pages.
+const ZONE: PlaceId = PlaceId { number: 0 };
+
+const FREE: CounterId = CounterId { number: 0 };
+
+/// What a test of `high` asks for: it answers yes where there are more free pages.
 const LIMIT: u64 = 15_000;
 
 /// The zone's slack: its mark of 190 less `high`.
@@ -37,15 +45,6 @@ struct Tally {
     far: u32,
 }
 
-/// The free pages of the zone.
-fn look(table: &PageTable, control: &mut ControlPass) -> FreePages
-    requires table { IsFrom control.old table.now }
-    requires narrow { IsNarrow table.now.facts.layout }
-    ensures { IsFrom control.new table.now }
-{
-    free_pages(table, control, PlaceId { number: 0 })
-}
-
 /// Whether the free pages that a test told are as near as they may be to a true total that is known to be within two
 /// numbers. They are told too high by the slack at most, and too low by the slack and what is carried.
 fn is_near(told: u64, least: u64, most: u64) -> bool {
@@ -53,107 +52,97 @@ fn is_near(told: u64, least: u64, most: u64) -> bool {
 }
 
 /// The tally with one more answer, of a test made while the true total was within two numbers.
-fn counted(tally: Tally, found: FreePages, least: u64, most: u64) -> Tally {
+fn counted(tally: Tally, found: Verdict, least: u64, most: u64) -> Tally {
     let Tally { yes, no, far } = tally;
-    let yes_here = found.fast && LIMIT < found.free;
-    let no_here = found.fast && LIMIT >= found.free;
+    let sound = found.yes == (LIMIT < found.free) && is_near(found.free, least, most);
     Tally {
-        yes: yes.wrapping_add(u32::from(yes_here)),
-        no: no.wrapping_add(u32::from(no_here)),
-        far: far.wrapping_add(u32::from(!is_near(found.free, least, most))),
+        yes: yes.wrapping_add(u32::from(found.fast && found.yes)),
+        no: no.wrapping_add(u32::from(found.fast && !found.yes)),
+        far: far.wrapping_add(u32::from(!sound)),
     }
 }
 
-/// Adds a page on the pass's CPU and then tests, so many times, while another thread adds pages. Tells how often an
-/// addition was refused.
-fn inc_and_test(
-    table: &PageTable,
-    mut pass: CpuPass,
-    mut control: ControlPass,
-    other: &Progress,
-    rounds: u32,
-) -> (Tally, u32)
-    requires idle { IsIdle table.now pass.pass }
-    requires control { IsFrom control table.now }
-    requires narrow { IsNarrow table.now.facts.layout }
+/// Counters of the machine with thresholds by these rules.
+fn opened_by<N: Rule, P: Rule>(alloc: Global, normal: N, pressure: P) -> Result<Counters, Fail>
+    requires normal { IsThresholdRule (N.accepts normal) (N.answers normal) }
+    requires pressure { IsThresholdRule (P.accepts pressure) (P.answers pressure) }
 {
+    let text = TWO_ZONES.as_bytes();
+    if text.len() > 1 << 26 {
+        return Err(Fail::new("no header is as long as this text"));
+    }
+    let (header, _lines, _bytes) = parse_header(alloc, text)?;
+    Ok(Counters::open(alloc, header, &Rules::make(normal, pressure))?)
+}
+
+/// The same by the kernel's rules.
+fn opened(alloc: Global) -> Result<Counters, Fail> {
+    opened_by(
+        alloc,
+        |size: &ZoneSize, online: u32| normal_threshold(size, online),
+        |size: &ZoneSize, online: u32| pressure_threshold(size, online),
+    )
+}
+
+/// Adds a page on the handle's CPU and then tests, so many times, while another thread adds pages.
+fn inc_and_test(mut handle: Handle, other: &Progress, rounds: u32) -> Result<Tally, CallError> {
     let mut tally = Tally {
         yes: 0,
         no: 0,
         far: 0,
     };
-    let mut refused: u32 = 0;
     for round in 0..rounds {
-        refused = refused.wrapping_add(u32::from(inc(table, &mut pass).is_err()));
+        handle.inc(FREE)?;
         let own = u64::from(round) + 1;
         // What the other thread has surely added before the test, and what it has begun to add after it.
         let least = other.added.load(Ordering::SeqCst).wrapping_add(own);
-        let found = look(table, &mut control);
+        let found = handle.watermark_ok(ZONE, WaterMark::High, 2)?;
         let most = other.begun.load(Ordering::SeqCst).wrapping_add(own);
         tally = counted(tally, found, least, most);
     }
-    (tally, refused)
+    Ok(tally)
 }
 
-/// Adds a page on the pass's CPU, so many times, and tells others how far it has come. Tells how often an addition was
-/// refused.
-fn inc_openly(table: &PageTable, mut pass: CpuPass, progress: &Progress, rounds: u32) -> u32
-    requires idle { IsIdle table.now pass.pass }
-    requires narrow { IsNarrow table.now.facts.layout }
-{
-    let mut refused: u32 = 0;
+/// Adds a page on the handle's CPU, so many times, and tells others how far it has come.
+fn inc_openly(mut handle: Handle, progress: &Progress, rounds: u32) -> Result<(), CallError> {
     for round in 0..rounds {
         let pages = u64::from(round) + 1;
         progress.begun.store(pages, Ordering::SeqCst);
-        refused = refused.wrapping_add(u32::from(inc(table, &mut pass).is_err()));
+        handle.inc(FREE)?;
         progress.added.store(pages, Ordering::SeqCst);
     }
-    refused
+    Ok(())
 }
 
-/// One thread adds pages and tests after each of them, and another adds pages. Tells how the tests came out, and how
-/// often an addition was refused.
+/// One thread adds pages and tests after each of them, and another adds pages. Tells how the tests came out.
 fn tests_beside_changes<R: Threads + Sync>(
     rt: &R,
     alloc: Global,
     rounds: u32,
     others: u32,
-) -> Result<(Tally, u32, u32), Fail> {
-    let Running {
-        table,
-        main: _,
-        passes,
-        end: _,
-    } = start(alloc, 0)?;
-    let Passes {
-        first,
-        second,
-        control,
-    } = passes;
-    let shared = &table;
+) -> Result<Tally, Fail> {
+    let mut counters = opened(alloc)?;
+    let first = counters.begin(CpuId { number: 0 })?;
+    let second = counters.begin(CpuId { number: 1 })?;
     let progress = Progress {
         begun: AtomicU64::new(0),
         added: AtomicU64::new(0),
     };
     let known = &progress;
-    let ((tally, by_first), by_second) = join(
+    let (tally, added) = join(
         rt,
-        move ||
-            requires { IsIdle shared.now first.pass × IsFrom control shared.now × IsNarrow shared.now.facts.layout }
-        { inc_and_test(shared, first, control, known, rounds) },
-        move ||
-            requires { IsIdle shared.now second.pass × IsNarrow shared.now.facts.layout }
-        { inc_openly(shared, second, known, others) },
+        move || { inc_and_test(first, known, rounds) },
+        move || { inc_openly(second, known, others) },
     );
-    Ok((tally, by_first, by_second))
+    added?;
+    Ok(tally?)
 }
 
 /// Both kinds of answer come in any order of the threads: with 4,900 pages of its own the tester knows of at most
 /// 14,900, and with all its pages of at least 20,000.
 #[test]
 fn answers_are_near_the_truth(rt: HostRuntime) -> Result<(), Fail> {
-    let (tally, by_first, by_second) = tests_beside_changes(&rt, rt.alloc(), 20_000, 10_000)?;
-    assert_eq!(rt; (by_first, by_second), (0, 0), "an addition was refused");
+    let tally = tests_beside_changes(&rt, rt.alloc(), 20_000, 10_000)?;
     assert_eq!(rt; tally.far, 0, "answers too far from the truth");
     assert!(rt; tally.no >= 4_000, "few answers no: {tally:?}");
     assert!(rt; tally.yes >= 1, "no answer yes: {tally:?}");

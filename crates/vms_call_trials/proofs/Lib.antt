@@ -1,3 +1,0 @@
-pub mod Volumes
-pub mod IdlePasses
-pub mod Common

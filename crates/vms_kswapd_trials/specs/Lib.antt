@@ -1,2 +1,0 @@
-pub mod BurialPasses
-pub mod Common

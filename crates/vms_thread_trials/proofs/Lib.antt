@@ -1,3 +1,0 @@
-pub mod IdleCalls
-pub mod FirstCounters
-pub mod FirstPuts

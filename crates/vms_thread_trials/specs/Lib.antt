@@ -1,3 +1,0 @@
-pub mod IdleCalls
-pub mod Machines
-pub mod Common
