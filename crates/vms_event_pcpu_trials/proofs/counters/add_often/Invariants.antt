@@ -1,6 +1,5 @@
-use Rattle.std.proofs.Common.{◌≤◌}
-use Rattle.vms_seats.specs.Common.{SeesMore}
+use Rattle.vms_seats.specs.Common.{IsFrom}
 use Rattle.vms_event_pcpu_trials.proofs.counters.add_often.Given as goal
 
 abbrev pub invariant-loop : goal.invariant-loop
-invariant-loop g l = SeesMore l.pass.pass l.fn.pass.pass × (l.refused ≤ l.counter)
+invariant-loop g l = IsFrom l.pass.pass l.table

@@ -1,10 +1,10 @@
--- The goals were that the second pass may begin, and that both have ended when the table is closed.
-use Rattle.std.proofs.Common.{Some, ◌∙◌, sym}
-use Rattle.vms_event_core.specs.declared.steps.EventStep.TheVariants.{Split, Join}
+-- The goal was that the volumes hold what CPU 1 has spent when the second pass begins.
+use Rattle.std.proofs.Common.{Some}
+use Rattle.vms_event_core.specs.declared.steps.EventStep.TheVariants.{Split}
 use Rattle.vms_event_core.specs.Common.{events}
-use Rattle.vms_event.specs.Common.{begins_it, ends_it}
+use Rattle.vms_event.specs.Common.{begins_it}
 use Rattle.vms_event_pcpu_trials.proofs.EventVolumes.{covers-second}
-use Rattle.vms_seats.proofs.Common.{first-seen, free-second, two-ended}
+use Rattle.vms_seats.proofs.Common.{first-seen}
 use Rattle.vms_event_pcpu_trials.proofs.events.two_that_count.Goals as goal
 
 pub cpu_pass-second-requires-clause-volume : goal.cpu_pass-second-requires-clause-volume

@@ -1,15 +1,15 @@
 -- The goal was that the volumes hold what CPU 1 has spent when the second pass begins.
-use Rattle.std.proofs.Common.{Some, ap, ◌∙◌, sym}
+use Rattle.std.proofs.Common.{Some, ap, ◌∙◌}
 use Rattle.vms_pcpu_core.specs.declared.steps.PcpuFacts.{PcpuFacts}
 use Rattle.vms_pcpu_core.specs.declared.steps.PcpuStep.TheVariants.{Split}
 use Rattle.vms_pcpu_core.specs.Common.{percpu}
 use Rattle.vms_pcpu.specs.Common.{begins_it}
 use Rattle.vms_event_pcpu_trials.proofs.CounterVolumes.{holds-second}
 use Rattle.vms_seats.proofs.Common.{first-seen}
-use Rattle.vms_event_pcpu_trials.proofs.counters.two_that_add.Goals as goal
+use Rattle.vms_event_pcpu_trials.proofs.counters.start.Goals as goal
 
 pub cpu_pass-second-requires-clause-volume : goal.cpu_pass-second-requires-clause-volume
-cpu_pass-second-requires-clause-volume g c =
+cpu_pass-second-requires-clause-volume c =
     let main = c.in_ok-table.ensures.main in
     let begun = c.cpu_pass-first.ensures.begun in
     holds-second c.cpu_pass-first.new.main.facts c.cpu_pass-first.new.main.seen (Some (record { number = 0 })) 1
