@@ -14,9 +14,10 @@ cited, has the third form.
 In the README of a crate, `crates/CRATE/README.md`, the crate's own names stand without `CRATE::` and `CRATE/`. Its
 functions are cited there where a line of a promise begins with "By", up to the end of the promise, and mentioned
 elsewhere. Every other span that is one word is looked up too: it is something that the crate defines, a crate or a
-library, or a word that docs/FORMATS.md has in a span or a block. A block ```rust there is an excerpt of the file that
-the paragraph above it names: its lines stand there one after another, where a line `...` stands for any that are left
-out.
+library, or a word that docs/FORMATS.md has in a span or a block.
+
+A block ```rust or ```antt is an excerpt of the file that the paragraph above it names: its lines stand there one after
+another, where a line `...` stands for any that are left out. Those of docs/HEADLINE.md are cut by .ci/headline.py.
 
 A paragraph that begins with `>` is a quotation. It has the words of a comment of the first file that the paragraph
 below it names, whatever the breaks of the lines. The mark stands before each of its lines, and elsewhere in it only in
@@ -34,6 +35,7 @@ FILE_NAMED = re.compile(r"`((?:(?:vms_\w+|vozhkell)/)?(?:src|specs|proofs|must-f
 OF_HOME = re.compile(r"((?:`[^`\s]+`(?:,\s+|,?\s+and\s+|\s+))+)of\s+`([^`\s]+)`")
 CRATE = re.compile(r"vms_\w+|vozhkell")
 OTHERS = re.compile(r"(?:vms_\w+|vozhkell)::")
+CUT = pathlib.Path("docs/HEADLINE.md")
 HEAD = re.compile(r"^(?:pub )?(?:impl\b.*?\bfor\s+|impl(?:<.*?>)?\s+|trait\s+|ghost trait\s+)(\w+)")
 FUNCTION = re.compile(r"( *)(?:pub(?:\(crate\))? )?(?:const )?fn (\w+)")
 CLAUSE = re.compile(r"( *)ensures (?:(\w+) )?\{")
@@ -234,7 +236,7 @@ class Reader:
                     self.say(f"{span}: the crate defines no such name")
 
     def excerpts(self):
-        for above, block in re.findall(r"([^\n]*)\n\n```rust\n(.*?)^```$", self.text, re.M | re.S):
+        for above, block in re.findall(r"([^\n]*)\n\n```(?:rust|antt)\n(.*?)^```$", self.text, re.M | re.S):
             self.tried += 1
             file = (SPAN.findall(above) or [""])[-1]
             lines = [line.strip() for line in text_of(pathlib.Path(file)).splitlines()]
@@ -257,6 +259,7 @@ class Reader:
         self.of_homes()
         if self.own:
             self.single_words()
+        if self.name != CUT:
             self.excerpts()
         return self
 

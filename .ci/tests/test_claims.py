@@ -165,6 +165,12 @@ class Refusals(unittest.TestCase):
 
     def test_excerpts(self):
         self.refuses("    7\n```", "    8\n```", "an example isn't an excerpt of crates/vms_low/src/numbers.rt: 8")
+        guide = Path("docs/GUIDE.md")
+        guide.write_text("From `crates/vms_low/specs/Numbers.antt`:\n\n```antt\nIsSmall n = n ≤ 7\n```\n", encoding="utf-8")
+        self.assertEqual(self.said(claims.main, str(guide))[0], 0)
+        guide.write_text(guide.read_text(encoding="utf-8").replace("≤ 7", "≤ 8"), encoding="utf-8")
+        self.assertIn("an example isn't an excerpt of crates/vms_low/specs/Numbers.antt: IsSmall n = n ≤ 8",
+                      self.said(claims.main, str(guide))[1])
 
     def test_made_parts(self):
         self.assertEqual(self.said(from_crates.main, "--check")[0], 1)
