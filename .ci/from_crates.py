@@ -1,12 +1,15 @@
 #!/usr/bin/env python3
-"""Makes the parts of docs/MAP.md and docs/PROVED.md that the crates' READMEs say: the list of the crates, each with the
-first paragraph of its README, and the index of what carries their promises. Groups and order are those of crates.txt.
+"""Makes the parts of docs/MAP.md and docs/PROVED.md that the crates' READMEs say: where to change what, the list of the
+crates, each with the first paragraph of its README, and the index of what carries their promises. Groups and order are
+those of crates.txt.
 
     .ci/from_crates.py            writes the parts anew, between the two comments that enclose each
     .ci/from_crates.py --check    changes nothing, says which document is stale, and ends with 1 if one is
 
-A crate's README begins with a line `# NAME` and a paragraph that says what it is for. Then come some of the sections
-Promises (which crates of trials lack), Tested, Trusted and let through, and For callers, in this order.
+A crate's README begins with a line `# NAME` and a paragraph that says what it is for. Another paragraph, `Change here:
+THIS; THAT.`, says what someone may want to change who has to come here. Then come some of the sections Promises,
+Tested, Trusted and let through, and For callers, in this order. Crates of trials and programs that are measured need
+neither promise anything nor say what is changed in them.
 """
 import pathlib
 import re
@@ -17,6 +20,7 @@ from claims import BY, FILE_NAMED, FUNCTION_NAMED, OF_HOME, functions_of
 
 WIDTH = 120
 SECTIONS = ["Promises", "Tested", "Trusted and let through", "For callers"]
+CHANGE = "Change here: "
 BEGIN, END = "<!-- made by .ci/from_crates.py -->", "<!-- end of what .ci/from_crates.py makes -->"
 
 
@@ -51,12 +55,18 @@ class Readme:
         self.sections = dict(zip(sections[::2], sections[1::2]))
         lines = head.split("\n\n")
         self.purpose = lines[1] if len(lines) > 1 else ""
+        changes = [" ".join(part.split()) for part in lines[2:] if part.startswith(CHANGE)]
+        self.changes = re.split(r"; ", changes[0].removeprefix(CHANGE).rstrip(".")) if changes else []
         if lines[0].strip() != f"# {crate}" or not self.purpose:
             self.wrong.append(f"{path}: wanted are a line `# {crate}` and a paragraph")
         if list(self.sections) != [name for name in SECTIONS if name in self.sections]:
             self.wrong.append(f"{path}: its sections are to be some of {', '.join(SECTIONS)}, in this order")
-        if "Promises" not in self.sections and not crate.endswith("_trials") and not crate.endswith("bench"):
+        if crate.endswith(("_trials", "bench")):
+            return
+        if "Promises" not in self.sections:
             self.wrong.append(f"{path}: it promises nothing")
+        if not self.changes:
+            self.wrong.append(f"{path}: it doesn't say what is changed here")
 
     def carriers(self):
         """The crate's functions that carry its promises, in alphabetical order."""
@@ -70,13 +80,18 @@ def sentence(text):
     return text[0].upper() + text[1:]
 
 
+def linked(crate):
+    return f"[`{crate}`](../crates/{crate}/README.md)"
+
+
 def map_part(readmes):
-    lines = []
+    lines = ["", "| I want to change | in |", "|---|---|"]
+    lines += [f"| {what} | {linked(crate)} |" for crate, readme in readmes.items() for what in readme.changes]
+    lines += ["", "## The crates"]
     for group, crates in groups():
         name, _, about = group.partition(": ")
         lines += ["", f"**{sentence(name)}**: {about}.", ""]
-        lines += [wrapped(f"[`{crate}`](../crates/{crate}/README.md): {readmes[crate].purpose}", "- ", "  ")
-                  for crate in crates]
+        lines += [wrapped(f"{linked(crate)}: {readmes[crate].purpose}", "- ", "  ") for crate in crates]
     return lines
 
 
@@ -91,7 +106,7 @@ def proved_part(readmes):
                 says = "trials" if crate.endswith("_trials") else "no function of its own"
             if "Trusted and let through" in readme.sections:
                 says += f"; [trusted and let through](../crates/{crate}/README.md#trusted-and-let-through)"
-            lines.append(wrapped(f"[`{crate}`](../crates/{crate}/README.md): {says}.", "- ", "  "))
+            lines.append(wrapped(f"{linked(crate)}: {says}.", "- ", "  "))
     return lines
 
 

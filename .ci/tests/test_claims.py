@@ -16,6 +16,9 @@ PROMISES = """# vms_low
 
 What stands below.
 
+Change here: how small a number
+is; what `mod` does.
+
 ## Promises
 
 - A number is small, and one that is stored by `Row::set` stays so.
@@ -177,7 +180,9 @@ class Refusals(unittest.TestCase):
         self.assertEqual(self.said(from_crates.main)[0], 0)
         self.assertEqual(self.said(from_crates.main, "--check")[0], 0)
         link = "[`vms_low`](../crates/vms_low/README.md)"
-        self.assertIn(f"{link}: What stands below.", Path("docs/MAP.md").read_text(encoding="utf-8"))
+        made = Path("docs/MAP.md").read_text(encoding="utf-8")
+        self.assertIn(f"{link}: What stands below.", made)
+        self.assertIn(f"| how small a number is | {link} |\n| what `mod` does | {link} |\n", made)
         self.assertIn(f"{link}: `Row::get`, `Row::set`, `small`.", Path("docs/PROVED.md").read_text(encoding="utf-8"))
         Path(README).write_text(PROMISES.replace("What stands below.", "What stands at the bottom."), encoding="utf-8")
         status, out = self.said(from_crates.main, "--check")
@@ -186,6 +191,8 @@ class Refusals(unittest.TestCase):
     def test_readmes_that_lack_something(self):
         Path(README).write_text(PROMISES.replace("## Promises", "## Tested"), encoding="utf-8")
         self.assertIn("it promises nothing", self.said(from_crates.main, "--check")[1])
+        Path(README).write_text(PROMISES.replace("Change here:", "See:"), encoding="utf-8")
+        self.assertIn("it doesn't say what is changed here", self.said(from_crates.main, "--check")[1])
         Path(README).unlink()
         self.assertIn("wanted are a line `# vms_low` and a paragraph", self.said(from_crates.main, "--check")[1])
 
