@@ -35,8 +35,8 @@ top layer grows past 400 definitions or 1,600 lines.
 # The subjects at which the top layer ends, each with its sentence and the files that tell it, as CRATE/FILE.
 LEAVES = [
     ("Header lines", "A header is read line by line; the first line at fault is refused with the first cause that holds "
-     "of it, and an accepted header is what its lines declare.", r"vms_header/(?!Spelling)|vms_line/Laws"),
-    ("Body lines", "A line is blank, or refused with the first cause that holds of it, or counts as a line of a lane, a "
+     "for it, and an accepted header is what its lines declare.", r"vms_header/(?!Spelling)|vms_line/Laws"),
+    ("Body lines", "A line is blank, or refused with the first cause that holds for it, or counts as a line of a lane, a "
      "boundary or a report; which it is goes by the header and the lines above it.",
      r"vms_line/(?!Spelling|Laws)|vms_script/|vms_text/(PlaceNames|Reading)"),
     ("Words and numbers", "A text is cut into lines at its newlines, a line into words of printing bytes, and a word "
