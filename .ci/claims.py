@@ -19,6 +19,8 @@ library, or a word that docs/FORMATS.md has in a span or a block.
 A block ```rust or ```antt is an excerpt of the file that the paragraph above it names: its lines stand there one after
 another, where a line `...` stands for any that are left out. Those of docs/HEADLINE.md are cut by .ci/headline.py.
 
+A link leads to a file that is there, and to a heading of it where it names one.
+
 A paragraph that begins with `>` is a quotation. It has the words of a comment of the first file that the paragraph
 below it names, whatever the breaks of the lines. The mark stands before each of its lines, and elsewhere in it only in
 code spans.
@@ -41,6 +43,9 @@ FUNCTION = re.compile(r"( *)(?:pub(?:\(crate\))? )?(?:const )?fn (\w+)")
 CLAUSE = re.compile(r"( *)ensures (?:(\w+) )?\{")
 BY = re.compile(r"^  By (.*?)(?=^- |^\S|^$)", re.M | re.S)
 QUOTATION = re.compile(r"((?:^>.*\n)(?:^.+\n)*)\n*((?:^.+\n?)*)", re.M)
+LINK = re.compile(r"\]\(([^)\s#]*)#?([^)\s]*)\)")
+HEADING = re.compile(r"^#+ (.*)$", re.M)
+BLOCK = re.compile(r"^```.*?^```$", re.M | re.S)
 COMMENT = re.compile(r"(?:^ *(?:--|//[/!]?) ?.*\n)+", re.M)
 COMMENT_MARK = re.compile(r"^ *(?:--|//[/!]?) ?", re.M)
 MADE_IN_CODE = re.compile(r"\b(?:fn|struct|enum|trait|const|static|type|mod|ensures|requires) (\w+)|"
@@ -110,6 +115,12 @@ def format_words():
     return set(re.findall(r"[\w-]+", " ".join(code)))
 
 
+def anchors_in(document):
+    """What links can name of a document: its headings in small letters, with a dash for each blank and no marks."""
+    headings = HEADING.findall(BLOCK.sub("", text_of(document)))
+    return {re.sub(r"[^\w -]", "", heading.lower()).replace(" ", "-") for heading in headings}
+
+
 def words_in(spans):
     return SPAN.findall(spans or "")
 
@@ -127,7 +138,7 @@ class Reader:
         own = re.fullmatch(r"crates/(\w+)/README\.md", self.name.as_posix())
         self.own = own.group(1) if own else None
         self.tried, self.wrong = 0, []
-        self.prose = re.sub(r"^```.*?^```$", "", self.text, flags=re.M | re.S)
+        self.prose = BLOCK.sub("", self.text)
 
     def say(self, what):
         self.wrong.append(f"{self.name}: {what}")
@@ -249,9 +260,19 @@ class Reader:
                     break
                 at = found + len(piece)
 
+    def links(self):
+        for to, heading in LINK.findall(self.prose):
+            if to.startswith("http"):
+                continue
+            self.tried += 1
+            path = self.name.parent / to if to else self.name
+            if not path.exists() or heading and heading not in anchors_in(path):
+                self.say(f"a link leads to nothing: {to}{'#' if heading else ''}{heading}")
+
     def read(self):
         if not self.text:
             self.say("no such document")
+        self.links()
         self.functions()
         self.clauses_beside()
         self.quotations()

@@ -169,11 +169,22 @@ class Refusals(unittest.TestCase):
     def test_excerpts(self):
         self.refuses("    7\n```", "    8\n```", "an example isn't an excerpt of crates/vms_low/src/numbers.rt: 8")
         guide = Path("docs/GUIDE.md")
-        guide.write_text("From `crates/vms_low/specs/Numbers.antt`:\n\n```antt\nIsSmall n = n ≤ 7\n```\n", encoding="utf-8")
+        shown = "From `crates/vms_low/specs/Numbers.antt`:\n\n```antt\nIsSmall n = n ≤ 7\n```\n"
+        guide.write_text(shown, encoding="utf-8")
         self.assertEqual(self.said(claims.main, str(guide))[0], 0)
-        guide.write_text(guide.read_text(encoding="utf-8").replace("≤ 7", "≤ 8"), encoding="utf-8")
+        guide.write_text(shown.replace("≤ 7", "≤ 8"), encoding="utf-8")
         self.assertIn("an example isn't an excerpt of crates/vms_low/specs/Numbers.antt: IsSmall n = n ≤ 8",
                       self.said(claims.main, str(guide))[1])
+
+    def test_links(self):
+        guide = Path("docs/GUIDE.md")
+        rows = [("MAP.md", 0), ("MAP.md#crates", 0), ("../crates/vms_low/README.md#for-callers", 0),
+                ("#a-free-page", 0), ("https://kernel.org/#x", 0), ("ROWS.md", 1), ("MAP.md#rows", 1),
+                ("#in-a-block", 1)]
+        for link, status in rows:
+            text = f"## A `free` page\n\n```\n# in a block\n```\n\n[Here]({link}) is `least` of `vms_low`.\n"
+            guide.write_text(text, encoding="utf-8")
+            self.assertEqual(self.said(claims.main, str(guide))[0], status, link)
 
     def test_made_parts(self):
         self.assertEqual(self.said(from_crates.main, "--check")[0], 1)
