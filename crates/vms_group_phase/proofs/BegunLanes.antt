@@ -1,8 +1,8 @@
 -- The passes of the lanes with lines begin one after another, each with its job.
-use Rattle.std.proofs.Common.{◌≡◌, ℕ, suc, ◌==◌, Bool, true, false, nat_eq, List, [], ◌∷◌, ◌++◌, length, get_or, Some}
+use Rattle.std.proofs.Common.{◌≡◌, ℕ, suc, true, List, [], ◌∷◌, ◌++◌, length, get_or, Some}
 use Rattle.std.proofs.Common.{refl, sym, ap, ◌∙◌, subst, arith, All}
 use Rattle.std.proofs.lemmas.List.{map-append}
-use Rattle.std.proofs.lemmas.List.Elements.{All-filter, All-push, All-weaker}
+use Rattle.std.proofs.lemmas.List.Elements.{All-push, All-weaker}
 use Rattle.vms_history.specs.Common.{CpuId, after, cell, own}
 use Rattle.vms_history.specs.declared.events.Event.{Event}
 use Rattle.vms_group_core.specs.declared.steps.GroupFacts.{GroupFacts}
@@ -16,14 +16,6 @@ use Rattle.vms_group_phase.specs.declared.jobs.LaneJob.{LaneJob}
 use Rattle.vms_group_phase.specs.Common.{FitVolumes, HaveBegunLanes, HasRoom, IsLaneJob, IsLineOf, group_of, has_some}
 use Rattle.vms_group_phase.specs.Common.{lane_lines, lanes_below, pass_of, spent_by_lines, splits_of}
 use Rattle.vms_group_phase.proofs.MainPasses.{begun-opened, lanes-more, own-made, spent-next, splits-more}
-
--- there are lines, by their number
-pub some-lines : (lines : List GroupItem) (n : ℕ) (empty : Bool) → n ≡ length lines → empty ≡ (n == 0) → empty ≡ false
-    → has_some lines ≡ true
-some-lines [] n empty long told some =
-    let none : empty ≡ true = told ∙ ap (λ k. k == 0) long in
-    absurd cc
-some-lines (line ∷ lines) n empty long told some = refl
 
 module _ (table : Shared GroupFacts) (items : List GroupItem) where
   module _ (c : CpuId) (old : Pass GroupFacts GroupStep) (jobs : List LaneJob)
@@ -46,13 +38,13 @@ module _ (table : Shared GroupFacts) (items : List GroupItem) where
 
       -- the job of the lane whose pass began
       pub job-made : (job : LaneJob) (volumes : List ℕ) → job.cpu ≡ c → job.pass.pass ≡ pass
-          → job.lines.items ≡ lane_lines c.number items → IsTreeCpu table.facts.tree c.number
+          → job.items.now ≡ items → IsTreeCpu table.facts.tree c.number
           → FitVolumes table.facts.tree volumes items
           → ((g : ℕ) → IsGroup table.facts.tree g
           → get_or job.pass.volume g 0 ≡ get_or volumes (cell (group_count table.facts.tree) c.number g) 0)
           → IsLaneJob table items job
       job-made job volumes cpu is lines c_in fit each = record {
-        lines = lines ∙ ap (λ (d : CpuId). lane_lines d.number items) (sym cpu);
+        lines = lines;
         number = ap (λ (p : Pass GroupFacts GroupStep). p.number) is ∙ begun.number ∙ next-is
             ∙ ap (λ (d : CpuId). pass_of items d.number) (sym cpu);
         fresh = subst (λ (p : Pass GroupFacts GroupStep). own p.seen p.number ≡ []) (sym is) begun.no_steps;
@@ -62,14 +54,14 @@ module _ (table : Shared GroupFacts) (items : List GroupItem) where
             facts = begun.facts ∙ have.of.facts;
           });
           named = subst (All (λ (item : GroupItem). IsGroup table.facts.tree (group_of item.call))) (sym lines)
-              (All-filter (λ (item : GroupItem). nat_eq item.cpu.number c.number)
-              (λ (item : GroupItem). IsGroup table.facts.tree (group_of item.call)) items
               (All-weaker (IsLineOf table.facts.tree)
               (λ (item : GroupItem). IsGroup table.facts.tree (group_of item.call))
-              (λ item is_line. is_line.group) items fit.lines));
-          room = subst (λ (list : List GroupItem). HasRoom table.facts.tree (spent_by_lines list) job.pass.volume)
-              (sym lines)
-              (λ g g_in. omega (arith, each g g_in, fit.most c.number g c_in g_in));
+              (λ item is_line. is_line.group) items fit.lines);
+          room = subst (λ (list : List GroupItem). HasRoom table.facts.tree
+              (spent_by_lines (lane_lines job.cpu.number list)) job.pass.volume) (sym lines)
+              (subst (λ (d : CpuId). HasRoom table.facts.tree (spent_by_lines (lane_lines d.number items))
+              job.pass.volume) (sym cpu)
+              (λ g g_in. omega (arith, each g g_in, fit.most c.number g c_in g_in)));
         };
       }
 

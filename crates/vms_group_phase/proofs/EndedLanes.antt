@@ -2,7 +2,7 @@
 use Rattle.std.proofs.Common.{◌≡◌, ℕ, suc, ◌<◌, ◌≤◌, nat_eq, Bool, true, false, List, [], ◌∷◌, ◌++◌, length, map}
 use Rattle.std.proofs.Common.{get_or, set, Ok, Err, refl, sym, ap, ◌∙◌, subst, arith, All, if◌then◌else◌, append_assoc}
 use Rattle.std.proofs.Common.{append-nil, eq-eqb, eqb-true}
-use Rattle.std.specs.Prelude.{Result, IfOk}
+use Rattle.std.specs.Prelude.{Result, IfOk, ℤ}
 use Rattle.std.proofs.lemmas.List.{length-map, map-set}
 use Rattle.std.proofs.lemmas.List.Elements.{All-head, All-nil, All-push, All-tail, All-weaker}
 use Rattle.vms_base.specs.declared.failures.Memory.{Memory}
@@ -11,7 +11,6 @@ use Rattle.vms_history.specs.declared.events.Event.{Event}
 use Rattle.vms_history.proofs.Common.{acts_of, begun_in-append, get_or-set, legal_before, live_is_given, lives_in-main}
 use Rattle.vms_history.proofs.Common.{own-ended}
 use Rattle.vms_history.proofs.PassLaws.{lives_in-ended}
-use Rattle.vms_group_core.specs.declared.call_values.GroupAnswer.{GroupAnswer}
 use Rattle.vms_group_core.specs.declared.steps.GroupFacts.{GroupFacts}
 use Rattle.vms_group_core.specs.declared.steps.GroupStep.{GroupStep}
 use Rattle.vms_group_core.specs.declared.steps.GroupStep.TheVariants.{Join}
@@ -20,21 +19,21 @@ use Rattle.vms_seats.specs.Common.{HasEnded, IsFrom, Pass, Shared}
 use Rattle.vms_group_phase.specs.declared.items.GroupItem.{GroupItem}
 use Rattle.vms_group_phase.specs.declared.jobs.LaneDone.{LaneDone}
 use Rattle.vms_group_phase.specs.declared.jobs.LaneJob.{LaneJob}
-use Rattle.vms_group_phase.specs.declared.lanes.LaneAnswers.{LaneAnswers}
+use Rattle.vms_group_phase.specs.declared.lanes.LaneValues.{LaneValues}
 use Rattle.vms_group_phase.specs.Common.{AreOfLines, AreResults, HasRunJob, HasRunLane, HaveBegunLanes, HaveEndedLanes}
-use Rattle.vms_group_phase.specs.Common.{HaveRunJobs, HaveRunLanes, IsLaneJob, IsOver, answers_of, joins_of, lane_lines}
-use Rattle.vms_group_phase.specs.Common.{lanes_below, pass_of, splits_of}
+use Rattle.vms_group_phase.specs.Common.{HaveRunJobs, HaveRunLanes, IsLaneJob, IsOver, joins_of, lane_lines}
+use Rattle.vms_group_phase.specs.Common.{lanes_below, pass_of, splits_of, values_of}
 use Rattle.vms_group_phase.proofs.MainPasses.{closed-parts, ended-closed, joins-more, lane-holds, lanes-known, own-made}
 
--- answers that are put into the place of a CPU
-pub answers_of-set : (answers : List LaneAnswers) (i c : ℕ) (own : LaneAnswers) → i < length answers
-    → answers_of (set answers i own) c ≡ (if nat_eq i c then own.items.items else answers_of answers c)
-answers_of-set answers i c own within =
-    let lists : List (List GroupAnswer) = map (λ (lane : LaneAnswers). lane.items.items) answers in
+-- values that are put into the place of a CPU
+pub values_of-set : (lanes : List LaneValues) (i c : ℕ) (own : LaneValues) → i < length lanes
+    → values_of (set lanes i own) c ≡ (if nat_eq i c then own.items.items else values_of lanes c)
+values_of-set lanes i c own within =
+    let lists : List (List ℤ) = map (λ (lane : LaneValues). lane.items.items) lanes in
     let inside : i < length lists =
-    omega (arith, within, length-map answers (λ (lane : LaneAnswers). lane.items.items)) in
-    ap (λ (all : List (List GroupAnswer)). get_or all c [])
-    (map-set (λ (lane : LaneAnswers). lane.items.items) answers i own)
+    omega (arith, within, length-map lanes (λ (lane : LaneValues). lane.items.items)) in
+    ap (λ (all : List (List ℤ)). get_or all c [])
+    (map-set (λ (lane : LaneValues). lane.items.items) lanes i own)
     ∙ get_or-set lists i c own.items.items [] inside
 
 middle : (P : ℕ → Type 0) (first rest : List ℕ) (c : ℕ) → All P (first ++ (c ∷ rest)) → P c
@@ -57,8 +56,11 @@ module _ (table : Shared GroupFacts) (items : List GroupItem) where
         steps = run.lines.steps;
         own_events = subst (λ (p : ℕ). own done.pass.pass.seen p ≡ after p run.lines.steps []) is.number
             (made.made.made ∙ ap (after job.pass.pass.number run.lines.steps) is.fresh);
-        of_lines = subst (λ (lines : List GroupItem). AreOfLines table.facts lines done.answers.items run.lines.steps)
+        answers = run.lines.answers;
+        of_lines = subst (λ (lines : List GroupItem).
+            AreOfLines table.facts (lane_lines job.cpu.number lines) run.lines.answers run.lines.steps)
             is.lines run.lines.of_lines;
+        told = run.lines.told;
       }
 
   result-of : (job : LaneJob) (result : Result LaneDone Memory) → IsLaneJob table items job
@@ -80,28 +82,28 @@ module _ (table : Shared GroupFacts) (items : List GroupItem) where
   )
 
   -- before the first lane ends
-  pub ended-none : (main : Pass GroupFacts GroupStep) (jobs : List LaneJob) (answers : List LaneAnswers)
+  pub ended-none : (main : Pass GroupFacts GroupStep) (jobs : List LaneJob) (lanes : List LaneValues)
       (results : List (Result LaneDone Memory)) → HaveBegunLanes table items table.facts.tree.cpus main jobs
-      → HaveRunJobs table jobs results → length answers ≡ table.facts.tree.cpus
-      → HaveEndedLanes table items main answers results
-  ended-none main jobs answers results begun run one_each = record {
+      → HaveRunJobs table jobs results → length lanes ≡ table.facts.tree.cpus
+      → HaveEndedLanes table items main lanes results
+  ended-none main jobs lanes results begun run one_each = record {
     of = begun.of;
     one_each = one_each;
     over = [];
     left = lanes_below items table.facts.tree.cpus;
     parts = refl;
     own_events = begun.own_events;
-    each = All-nil (IsOver table.facts items answers main.seen);
-    rest = subst (λ (lanes : List ℕ). AreResults table items lanes results) begun.lanes
+    each = All-nil (IsOver table.facts items lanes main.seen);
+    rest = subst (λ (left : List ℕ). AreResults table items left results) begun.lanes
         (results-of jobs results begun.each run);
   }
 
-  pub ended-head : (main : Pass GroupFacts GroupStep) (answers : List LaneAnswers)
+  pub ended-head : (main : Pass GroupFacts GroupStep) (lanes : List LaneValues)
       (all rest : List (Result LaneDone Memory)) (result : Result LaneDone Memory) (done : LaneDone)
-      → all ≡ result ∷ rest → result ≡ Ok done → HaveEndedLanes table items main answers all
-      → HaveEndedLanes table items main answers (Ok done ∷ rest)
-  ended-head main answers all rest result done parts is have =
-      subst (λ (results : List (Result LaneDone Memory)). HaveEndedLanes table items main answers results)
+      → all ≡ result ∷ rest → result ≡ Ok done → HaveEndedLanes table items main lanes all
+      → HaveEndedLanes table items main lanes (Ok done ∷ rest)
+  ended-head main lanes all rest result done parts is have =
+      subst (λ (results : List (Result LaneDone Memory)). HaveEndedLanes table items main lanes results)
       (parts ∙ ap (λ (r : Result LaneDone Memory). r ∷ rest) is) have
 
   -- the lane that ends next
@@ -112,8 +114,8 @@ module _ (table : Shared GroupFacts) (items : List GroupItem) where
     pub run : HasRunLane table items lane done
     pub results : AreResults table items others rest
 
-  module _ (old : Pass GroupFacts GroupStep) (answers : List LaneAnswers) (done : LaneDone)
-      (rest : List (Result LaneDone Memory)) (have : HaveEndedLanes table items old answers (Ok done ∷ rest)) where
+  module _ (old : Pass GroupFacts GroupStep) (lanes : List LaneValues) (done : LaneDone)
+      (rest : List (Result LaneDone Memory)) (have : HaveEndedLanes table items old lanes (Ok done ∷ rest)) where
     pub ends-next : EndsNext have.over have.left done rest
     ends-next = by have.left have.rest
       where
@@ -126,20 +128,20 @@ module _ (table : Shared GroupFacts) (items : List GroupItem) where
     pub next-from : IsFrom old table × IsFrom done.pass.pass table
     next-from = (have.of, ends-next.run.of)
 
-    pub next-place : done.cpu.number < length answers
+    pub next-place : done.cpu.number < length lanes
     next-place =
         let next = ends-next in
         let cpus = table.facts.tree.cpus in
         let parts : lanes_below items cpus ≡ have.over ++ (next.lane ∷ next.others) =
-        have.parts ∙ ap (λ lanes. have.over ++ lanes) next.parts in
+        have.parts ∙ ap (λ left. have.over ++ left) next.parts in
         let below = middle (λ c. c < cpus) have.over next.others next.lane
         (subst (All (λ c. c < cpus)) parts (lanes-known items cpus)) in
         omega (arith, next.run.is, below, have.one_each)
 
-    module _ (new : Pass GroupFacts GroupStep) (grown : List LaneAnswers)
-        (ended : HasEnded groups Join new old done.pass.pass) (one_each : length grown ≡ length answers)
-        (placed : (c : ℕ) → answers_of grown c
-        ≡ (if nat_eq done.cpu.number c then done.answers.items else answers_of answers c)) where
+    module _ (new : Pass GroupFacts GroupStep) (grown : List LaneValues)
+        (ended : HasEnded groups Join new old done.pass.pass) (one_each : length grown ≡ length lanes)
+        (placed : (c : ℕ) → values_of grown c
+        ≡ (if nat_eq done.cpu.number c then done.values.items else values_of lanes c)) where
       legal : IsLegal table.facts new.seen
       legal = subst (λ (f : GroupFacts). IsLegal f new.seen) have.of.facts ended.made.legal
 
@@ -176,15 +178,16 @@ module _ (table : Shared GroupFacts) (items : List GroupItem) where
             steps = run.steps;
             own_events = ap (own new.seen) (sym run.number) ∙ ended.all_steps ∙ ap (own done.pass.pass.seen) run.number
                 ∙ run.own_events;
-            of_lines = subst (λ (list : List GroupAnswer).
-                AreOfLines table.facts (lane_lines ends-next.lane items) list run.steps)
-                (sym (placed ends-next.lane ∙ ap (λ (b : Bool).
-                if b then done.answers.items else answers_of answers ends-next.lane)
-                (eq-eqb done.cpu.number ends-next.lane run.is))) run.of_lines;
+            answers = run.answers;
+            of_lines = run.of_lines;
+            told = placed ends-next.lane
+                ∙ ap (λ (b : Bool). if b then done.values.items else values_of lanes ends-next.lane)
+                (eq-eqb done.cpu.number ends-next.lane run.is)
+                ∙ run.told;
           }
 
       -- and those that were over are
-      over-still : (c : ℕ) → IsOver table.facts items answers old.seen c → IsOver table.facts items grown new.seen c
+      over-still : (c : ℕ) → IsOver table.facts items lanes old.seen c → IsOver table.facts items grown new.seen c
       over-still c is = by (nat_eq done.cpu.number c) refl
         where
           later : Extends new.seen old.seen
@@ -207,9 +210,10 @@ module _ (table : Shared GroupFacts) (items : List GroupItem) where
                 ∙ own-ended groups table.facts later.0 old.seen (pass_of items c) legal-there (omega arith) is.given
                 is.ended
                 ∙ is.own_events;
-            of_lines = subst (λ (list : List GroupAnswer). AreOfLines table.facts (lane_lines c items) list is.steps)
-                (sym (placed c ∙ ap (λ (b : Bool). if b then done.answers.items else answers_of answers c) other))
-                is.of_lines;
+            answers = is.answers;
+            of_lines = is.of_lines;
+            told = placed c ∙ ap (λ (b : Bool). if b then done.values.items else values_of lanes c) other
+                ∙ is.told;
           }
 
       pub ended-next : HaveEndedLanes table items new grown rest
@@ -221,7 +225,7 @@ module _ (table : Shared GroupFacts) (items : List GroupItem) where
         one_each = one_each ∙ have.one_each;
         over = have.over ++ ends-next.lane ∷ [];
         left = ends-next.others;
-        parts = have.parts ∙ ap (λ lanes. have.over ++ lanes) ends-next.parts
+        parts = have.parts ∙ ap (λ left. have.over ++ left) ends-next.parts
             ∙ sym (append_assoc have.over (ends-next.lane ∷ []) ends-next.others);
         own_events = own-made old.facts new.seen old.seen (Join p) ended.made
             ∙ ap (λ es. join ∷ es) have.own_events
@@ -231,32 +235,32 @@ module _ (table : Shared GroupFacts) (items : List GroupItem) where
             ∙ sym (joins-more items have.over ends-next.lane
             (after 0 (splits_of items (lanes_below items table.facts.tree.cpus)) []));
         each = All-push (IsOver table.facts items grown new.seen) have.over ends-next.lane
-            (All-weaker (IsOver table.facts items answers old.seen) (IsOver table.facts items grown new.seen)
+            (All-weaker (IsOver table.facts items lanes old.seen) (IsOver table.facts items grown new.seen)
             over-still have.over have.each) over-now;
         rest = ends-next.results;
       }
 
   -- once all have ended
-  pub all-ended : (main : Pass GroupFacts GroupStep) (answers : List LaneAnswers)
+  pub all-ended : (main : Pass GroupFacts GroupStep) (lanes : List LaneValues)
       (results : List (Result LaneDone Memory)) → length results ≡ 0
-      → HaveEndedLanes table items main answers results → HaveRunLanes table items main answers
-  all-ended main answers results none have =
+      → HaveEndedLanes table items main lanes results → HaveRunLanes table items main lanes
+  all-ended main lanes results none have =
       let cpus = table.facts.tree.cpus in
-      let lanes = lanes_below items cpus in
+      let begun = lanes_below items cpus in
       let nothing = no-lane have.left results have.rest none in
-      let all : lanes ≡ have.over =
+      let all : begun ≡ have.over =
       have.parts ∙ ap (λ left. have.over ++ left) nothing ∙ append-nil have.over in
-      let events : own main.seen 0 ≡ after 0 (splits_of items lanes ++ joins_of items lanes) [] =
+      let events : own main.seen 0 ≡ after 0 (splits_of items begun ++ joins_of items begun) [] =
       have.own_events
-      ∙ ap (λ over. after 0 (joins_of items over) (after 0 (splits_of items lanes) [])) (sym all)
+      ∙ ap (λ over. after 0 (joins_of items over) (after 0 (splits_of items begun) [])) (sym all)
       ∙ sym (closed-parts items cpus) in
       record {
         of = have.of;
         one_each = have.one_each;
         ended = ended-closed items cpus main.seen events;
         own_events = events;
-        each = lane-holds items (IsOver table.facts items answers main.seen) cpus
-            (subst (All (IsOver table.facts items answers main.seen)) (sym all) have.each);
+        each = lane-holds items (IsOver table.facts items lanes main.seen) cpus
+            (subst (All (IsOver table.facts items lanes main.seen)) (sym all) have.each);
       }
     where
       no-lane : (left : List ℕ) (results : List (Result LaneDone Memory)) → AreResults table items left results

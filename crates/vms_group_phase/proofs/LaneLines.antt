@@ -1,12 +1,12 @@
 -- The lines of a lane among the first lines of a phase, and what they spend.
-use Rattle.std.proofs.Common.{◌≡◌, ℕ, ◌+◌, ◌<◌, ◌≤◌, nat_eq, Bool, true, false, cond, List, [], ◌∷◌, ◌++◌, length, take}
-use Rattle.std.proofs.Common.{drop, get_or, refl, sym, ap, ◌∙◌, arith, eq-eqb, length-append, pos}
+use Rattle.std.proofs.Common.{◌≡◌, ℕ, suc, ◌+◌, ◌<◌, ◌≤◌, nat_eq, Bool, true, false, cond, List, [], ◌∷◌, ◌++◌, length}
+use Rattle.std.proofs.Common.{take, drop, filter, get_or, refl, sym, ap, ◌∙◌, arith, eq-eqb, length-append, pos}
 use Rattle.std.proofs.lemmas.List.{get_or_default, take-append-drop, take_more}
 use Rattle.std.proofs.lemmas.List.Elements.{filter-append}
 use Rattle.vms_group_core.specs.declared.call_values.GroupCall.TheVariants.{Change}
 use Rattle.vms_group_core.specs.Common.{group_spent}
 use Rattle.vms_group_phase.specs.declared.items.GroupItem.{GroupItem}
-use Rattle.vms_group_phase.specs.Common.{lane_lines, spent_by_lines}
+use Rattle.vms_group_phase.specs.Common.{asking, asks, has_some, lane_lines, spent_by_lines}
 
 pub spent-append : (first second : List GroupItem) (g : ℕ)
     → spent_by_lines (first ++ second) g ≡ spent_by_lines first g + spent_by_lines second g
@@ -92,15 +92,84 @@ spent-most c g n items =
     ∙ spent-append (lane_lines c (take n items)) (lane_lines c (drop n items)) g in
     omega (arith, all)
 
--- the same of lines of one lane
-pub spent-next : (g n : ℕ) (lines : List GroupItem) (item : GroupItem) → n < length lines
-    → item ≡ get_or lines n item
-    → spent_by_lines (take n lines) g + group_spent item.call g ≤ spent_by_lines lines g
-spent-next g n lines item below is =
-    let all = ap (λ list. spent_by_lines list g) (around-line lines n item below is) in
-    omega (
-      arith,
-      all,
-      spent-append (take n lines ++ item ∷ []) (drop (n + 1) lines) g,
-      spent-append (take n lines) (item ∷ []) g,
-    )
+-- so the next of a lane spends no more than is left
+pub spent-next : (c g n : ℕ) (items : List GroupItem) (item : GroupItem) → n < length items
+    → item ≡ get_or items n item → nat_eq item.cpu.number c ≡ true
+    → spent_by_lines (lane_lines c (take n items)) g + group_spent item.call g
+    ≤ spent_by_lines (lane_lines c items) g
+spent-next c g n items item below is mine =
+    let more = spent-more c g n items item below is
+    ∙ ap (λ (b : Bool). spent_by_lines (lane_lines c (take n items)) g + cond b (group_spent item.call g) 0) mine in
+    omega (arith, more, spent-most c g (n + 1) items)
+
+-- a lane that has as many lines has one
+pub has-some : (lines : List GroupItem) → 0 < length lines → has_some lines ≡ true
+has-some [] some = absurd (omega (arith, some))
+has-some (line ∷ lines) some = refl
+
+pub lane-few : (c : ℕ) (items : List GroupItem) → length (lane_lines c items) ≤ length items
+lane-few c [] = omega arith
+lane-few c (item ∷ items) = by (nat_eq item.cpu.number c) (lane-few c items)
+  where
+    by : (b : Bool) → length (lane_lines c items) ≤ length items
+        → length (cond b (item ∷ lane_lines c items) (lane_lines c items)) ≤ suc (length items)
+    by true few = omega (arith, few)
+    by false few = omega (arith, few)
+
+-- the lines that ask
+asking-append : (first second : List GroupItem) → asking (first ++ second) ≡ asking first ++ asking second
+asking-append first second = filter-append (λ (line : GroupItem). asks line.call) first second
+
+asks-append : (c : ℕ) (first second : List GroupItem) → length (asking (lane_lines c (first ++ second)))
+    ≡ length (asking (lane_lines c first)) + length (asking (lane_lines c second))
+asks-append c first second =
+    ap (λ lines. length (asking lines)) (lane-append c first second)
+    ∙ ap length (asking-append (lane_lines c first) (lane_lines c second))
+    ∙ length-append (asking (lane_lines c first)) (asking (lane_lines c second))
+
+-- of a lane grow with each line that asks
+pub asks-more : (c n : ℕ) (items : List GroupItem) (item : GroupItem) → n < length items
+    → item ≡ get_or items n item
+    → length (asking (lane_lines c (take (n + 1) items)))
+    ≡ length (asking (lane_lines c (take n items)))
+    + cond (nat_eq item.cpu.number c) (cond (asks item.call) 1 0) 0
+asks-more c n items item below is =
+    ap (λ lines. length (asking (lane_lines c lines))) (take-line items n item below is)
+    ∙ asks-append c (take n items) (item ∷ [])
+    ∙ ap (λ (k : ℕ). length (asking (lane_lines c (take n items))) + k)
+    (by (nat_eq item.cpu.number c) (asks item.call))
+  where
+    by : (own ask : Bool)
+        → length (filter (λ (line : GroupItem). asks line.call) (cond own (item ∷ []) []))
+        ≡ cond own (cond (asks item.call) 1 0) 0
+    by true ask = one (asks item.call)
+      where
+        one : (b : Bool) → length (cond b (item ∷ []) []) ≡ cond b 1 0
+        one true = refl
+        one false = refl
+    by false ask = refl
+
+-- and before one that asks there is one less than there are
+pub ask-left : (n : ℕ) (items : List GroupItem) (item : GroupItem) → n < length items → item ≡ get_or items n item
+    → asks item.call ≡ true
+    → length (asking (lane_lines item.cpu.number (take n items)))
+    < length (asking (lane_lines item.cpu.number items))
+ask-left n items item below is ask =
+    let c = item.cpu.number in
+    let more = asks-more c n items item below is
+    ∙ ap (λ (b : Bool). length (asking (lane_lines c (take n items))) + cond b (cond (asks item.call) 1 0) 0)
+    (eq-eqb c c refl)
+    ∙ ap (λ (b : Bool). length (asking (lane_lines c (take n items))) + cond b 1 0) ask in
+    let all = ap (λ lines. length (asking (lane_lines c lines))) (sym (take-append-drop (n + 1) items))
+    ∙ asks-append c (take (n + 1) items) (drop (n + 1) items) in
+    omega (arith, more, all)
+
+-- the lines of a lane round one of them
+pub lane-round : (above items : List GroupItem) (item : GroupItem)
+    → lane_lines item.cpu.number (above ++ (item ∷ items))
+    ≡ lane_lines item.cpu.number above ++ (item ∷ lane_lines item.cpu.number items)
+lane-round above items item =
+    let c = item.cpu.number in
+    lane-append c above (item ∷ items)
+    ∙ ap (λ (b : Bool). lane_lines c above ++ cond b (item ∷ lane_lines c items) (lane_lines c items))
+    (eq-eqb c c refl)

@@ -1,4 +1,5 @@
 pub mod LaneLines
+pub mod CountedItems
 pub mod LineRuns
 pub mod OrderedValues
 pub mod ListedReads

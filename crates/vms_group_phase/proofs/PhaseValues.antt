@@ -1,22 +1,25 @@
--- What the lanes answered is what the history of the phase tells.
-use Rattle.std.proofs.Common.{◌≡◌, ℕ, ◌<◌, ◌≤◌, true, List, [], ◌∷◌, ◌++◌, length, map, reverse, refl, sym, ap, ◌∙◌}
-use Rattle.std.proofs.Common.{arith, All, append_assoc, append-nil}
+-- What the lanes found is what the history of the phase tells.
+use Rattle.std.proofs.Common.{◌≡◌, ℕ, suc, ◌<◌, ◌≤◌, true, List, [], ◌∷◌, ◌++◌, length, map, reverse, get_or, refl, sym}
+use Rattle.std.proofs.Common.{ap, ◌∙◌, subst, arith, All, append_assoc, append-nil, cond, ℤ, pos}
 use Rattle.std.proofs.lemmas.List.{map-append}
-use Rattle.std.proofs.lemmas.List.Elements.{All-from_get_or, All-get_or}
+use Rattle.std.proofs.lemmas.List.Elements.{All-from_get_or, All-get_or, All-head, All-tail}
 use mathlib.Core.List.{reverse-cons}
 use Rattle.vms_history.specs.Common.{after}
 use Rattle.vms_history.specs.declared.events.Event.{Event}
 use Rattle.vms_group_core.specs.declared.call_values.GroupAnswer.{GroupAnswer}
+use Rattle.vms_group_core.specs.declared.call_values.GroupAnswer.TheVariants.{Done, Value as Answers}
 use Rattle.vms_group_core.specs.declared.call_values.GroupCall.{GroupCall}
+use Rattle.vms_group_core.specs.declared.call_values.GroupCall.TheVariants.{Change, Flush, Value}
 use Rattle.vms_group_core.specs.declared.steps.GroupFacts.{GroupFacts}
 use Rattle.vms_group_core.specs.declared.steps.GroupStep.{GroupStep}
 use Rattle.vms_group_core.specs.Common.{History, IsGroupCall, IsTreeCpu, read_group_call}
 use Rattle.vms_group_phase.specs.declared.items.GroupItem.{GroupItem}
-use Rattle.vms_group_phase.specs.declared.lanes.LaneAnswers.{LaneAnswers}
-use Rattle.vms_group_phase.specs.Common.{AreOfLines, IsLineOf, IsOver, answers_of, has_some, lane_lines, pass_of}
-use Rattle.vms_group_phase.specs.Common.{read_lines, steps_of, values_after}
-use Rattle.vms_group_phase.proofs.LaneLines.{line_at, line-left, line-there, no_line}
-use Rattle.vms_group_phase.proofs.OrderedValues.{values-same}
+use Rattle.vms_group_phase.specs.declared.items.NumberedValue.{NumberedValue}
+use Rattle.vms_group_phase.specs.declared.lanes.LaneValues.{LaneValues}
+use Rattle.vms_group_phase.specs.Common.{AreOfLines, IsLineOf, IsOver, asking, asks, has_some, lane_lines, pass_of}
+use Rattle.vms_group_phase.specs.Common.{read_lines, steps_of, taken_after, taken_by_line, value_in, value_of_line}
+use Rattle.vms_group_phase.specs.Common.{values_after, values_among, values_of}
+use Rattle.vms_group_phase.proofs.LaneLines.{has-some, lane-round, line_at, line-left, line-there, no_line}
 
 -- what is read off the steps of a call, as the law of calls says it
 abbrev pub AnswersAreRead : GroupFacts → Type 0
@@ -48,52 +51,132 @@ module _ (facts : GroupFacts) (read : AnswersAreRead facts) where
       ∙ ap (λ list. a ∷ list) (lines-read lines answers are.others are.go_on)
 
   -- what a lane that is over answered
-  over-read : (items : List GroupItem) (answers : List LaneAnswers) (h : History) (c : ℕ)
-      → IsOver facts items answers h c
-      → read_lines facts (lane_lines c items) (steps_of h (pass_of items c)) ≡ answers_of answers c
-  over-read items answers h c over =
+  over-read : (items : List GroupItem) (lanes : List LaneValues) (h : History) (c : ℕ)
+      → (over : IsOver facts items lanes h c)
+      → read_lines facts (lane_lines c items) (steps_of h (pass_of items c)) ≡ over.answers
+  over-read items lanes h c over =
       ap (read_lines facts (lane_lines c items))
       (ap (λ es. map (λ (e : Event GroupStep). e.step) (reverse es)) over.own_events
       ∙ steps-after (pass_of items c) over.steps [])
-      ∙ lines-read (lane_lines c items) (answers_of answers c) over.steps over.of_lines
+      ∙ lines-read (lane_lines c items) over.answers over.steps over.of_lines
 
--- there is an answer for each line
-lines-answered : (facts : GroupFacts) (lines : List GroupItem) (answers : List GroupAnswer) (steps : List GroupStep)
-    → AreOfLines facts lines answers steps → length lines ≤ length answers
-lines-answered facts [] [] steps are = omega arith
-lines-answered facts [] (a ∷ answers) steps are = absurd are
-lines-answered facts (line ∷ lines) [] steps are = absurd are
-lines-answered facts (line ∷ lines) (a ∷ answers) steps are =
-    let rest = lines-answered facts lines answers are.others are.go_on in omega arith
+module _ (facts : GroupFacts) where
+  -- there is a value for each line that asks
+  asks-answered : (lines : List GroupItem) (answers : List GroupAnswer) (steps : List GroupStep)
+      → AreOfLines facts lines answers steps → length (asking lines) ≡ length (values_among answers)
+  asks-answered [] [] steps are = refl
+  asks-answered [] (a ∷ answers) steps are = absurd are
+  asks-answered (line ∷ lines) [] steps are = absurd are
+  asks-answered (line ∷ lines) (a ∷ answers) steps are =
+      by line.call a are.is_call (asks-answered lines answers are.others are.go_on)
+    where
+      by : (call : GroupCall) (a : GroupAnswer) → IsGroupCall facts call are.first a
+          → length (asking lines) ≡ length (values_among answers)
+          → length (cond (asks call) (line ∷ asking lines) (asking lines)) ≡ length (values_among (a ∷ answers))
+      by (Value g) (Answers v) is same = ap suc same
+      by (Value g) Done is same = absurd is
+      by (Change g d) Done is same = same
+      by (Change g d) (Answers v) is same = absurd is
+      by (Flush g) Done is same = same
+      by (Flush g) (Answers v) is same = absurd is
 
-has-some : (lines : List GroupItem) → 0 < length lines → has_some lines ≡ true
-has-some [] some = absurd (omega (arith, some))
-has-some (line ∷ lines) some = refl
+  -- a line that asks is told the value that stands after those of the lines above it
+  value-there : (above rest : List GroupItem) (item : GroupItem) (answers : List GroupAnswer) (steps : List GroupStep)
+      (g : ℕ) → AreOfLines facts (above ++ (item ∷ rest)) answers steps → item.call ≡ Value g
+      → get_or (values_among answers) (length (asking above)) (pos 0)
+      ≡ value_in (get_or answers (length above) Done)
+  value-there [] rest item [] steps g are call = absurd are
+  value-there [] rest item (a ∷ answers) steps g are call =
+      by a (subst (λ (c : GroupCall). IsGroupCall facts c are.first a) call are.is_call)
+    where
+      by : (a : GroupAnswer) → IsGroupCall facts (Value g) are.first a
+          → get_or (values_among (a ∷ answers)) 0 (pos 0) ≡ value_in a
+      by (Answers v) is = refl
+      by Done is = absurd is
+  value-there (line ∷ above) rest item [] steps g are call = absurd are
+  value-there (line ∷ above) rest item (a ∷ answers) steps g are call =
+      by line.call a are.is_call (value-there above rest item answers are.others g are.go_on call)
+    where
+      by : (call : GroupCall) (a : GroupAnswer) → IsGroupCall facts call are.first a
+          → get_or (values_among answers) (length (asking above)) (pos 0)
+          ≡ value_in (get_or answers (length above) Done)
+          → get_or (values_among (a ∷ answers))
+          (length (cond (asks call) (line ∷ asking above) (asking above))) (pos 0)
+          ≡ value_in (get_or (a ∷ answers) (suc (length above)) Done)
+      by (Value h) (Answers v) is same = same
+      by (Value h) Done is same = absurd is
+      by (Change h d) Done is same = same
+      by (Change h d) (Answers v) is same = absurd is
+      by (Flush h) Done is same = same
+      by (Flush h) (Answers v) is same = absurd is
 
-module _ (facts : GroupFacts) (items : List GroupItem) (answers : List LaneAnswers) (h : History)
+  -- what the lane of a CPU found is what its lines answered
+  record Found (items : List GroupItem) (values : ℕ → List ℤ) (answers : ℕ → List GroupAnswer) (c : ℕ) : Type 0 where
+    pub steps : List GroupStep
+    pub of_lines : AreOfLines facts (lane_lines c items) (answers c) steps
+    pub told : values c ≡ values_among (answers c)
+
+  -- so lines are told what they answered
+  values-found : (values : ℕ → List ℤ) (answers : ℕ → List GroupAnswer) (all above items : List GroupItem)
+      → all ≡ above ++ items → All (λ (item : GroupItem). Found all values answers item.cpu.number) items
+      → taken_after values above items ≡ values_after answers above items
+  values-found values answers all above [] parts found = refl
+  values-found values answers all above (item ∷ items) parts found =
+      let P : GroupItem → Type 0 = λ line. Found all values answers line.cpu.number in
+      ap (λ vs. vs ++ taken_after values (above ++ item ∷ []) items)
+      (by item.call refl (All-head P item items found))
+      ∙ ap (λ vs. value_of_line answers above item item.call ++ vs)
+      (values-found values answers all (above ++ item ∷ []) items
+      (parts ∙ sym (append_assoc above (item ∷ []) items)) (All-tail P item items found))
+    where
+      by : (call : GroupCall) → item.call ≡ call → Found all values answers item.cpu.number
+          → taken_by_line values above item call ≡ value_of_line answers above item call
+      by (Value g) is here =
+          let c = item.cpu.number in
+          let entry : ℤ → NumberedValue = λ v. record { number = item.number; value = v } in
+          ap (λ v. entry v ∷ [])
+          (ap (λ vs. get_or vs (length (asking (lane_lines c above))) (pos 0)) here.told
+          ∙ value-there (lane_lines c above) (lane_lines c items) item (answers c) here.steps g
+          (subst (λ (lines : List GroupItem). AreOfLines facts lines (answers c) here.steps)
+          (ap (lane_lines c) parts ∙ lane-round above items item) here.of_lines) is)
+      by (Change g d) is here = refl
+      by (Flush g) is here = refl
+
+module _ (facts : GroupFacts) (items : List GroupItem) (lanes : List LaneValues) (h : History)
     (known : All (IsLineOf facts.tree) items)
-    (over : (c : ℕ) → IsTreeCpu facts.tree c → has_some (lane_lines c items) ≡ true → IsOver facts items answers h c)
+    (over : (c : ℕ) → IsTreeCpu facts.tree c → has_some (lane_lines c items) ≡ true → IsOver facts items lanes h c)
   where
     -- the lane of each line is over
-    over-there : (n : ℕ) → n < length items → IsOver facts items answers h (line_at items n).cpu.number
+    over-there : (n : ℕ) → n < length items → IsOver facts items lanes h (line_at items n).cpu.number
     over-there n below =
         let line = All-get_or (IsLineOf facts.tree) items n no_line below known in
         over (line_at items n).cpu.number line.cpu
         (has-some (lane_lines (line_at items n).cpu.number items)
         (let left = line-left n items (line_at items n) below (line-there items n below) in omega (arith, left)))
 
-    pub all-answered : All (λ (item : GroupItem). length (lane_lines item.cpu.number items)
-        ≤ length (answers_of answers item.cpu.number)) items
-    all-answered = All-from_get_or (λ (item : GroupItem). length (lane_lines item.cpu.number items)
-        ≤ length (answers_of answers item.cpu.number)) items no_line (λ n below.
+    pub all-found : All (λ (item : GroupItem). length (asking (lane_lines item.cpu.number items))
+        ≤ length (values_of lanes item.cpu.number)) items
+    all-found = All-from_get_or (λ (item : GroupItem). length (asking (lane_lines item.cpu.number items))
+        ≤ length (values_of lanes item.cpu.number)) items no_line (λ n below.
         let c = (line_at items n).cpu.number in
         let there = over-there n below in
-        lines-answered facts (lane_lines c items) (answers_of answers c) there.steps there.of_lines)
+        let same = asks-answered facts (lane_lines c items) there.answers there.steps there.of_lines in
+        let told = ap length there.told in
+        omega (arith, same, told))
 
-    pub values-read : AnswersAreRead facts → values_after (answers_of answers) [] items
+    pub values-read : AnswersAreRead facts → taken_after (values_of lanes) [] items
         ≡ values_after (λ c. read_lines facts (lane_lines c items) (steps_of h (pass_of items c))) [] items
     values-read read =
         let told : ℕ → List GroupAnswer = λ c. read_lines facts (lane_lines c items) (steps_of h (pass_of items c)) in
-        values-same (answers_of answers) told [] items
-        (All-from_get_or (λ (item : GroupItem). answers_of answers item.cpu.number ≡ told item.cpu.number) items no_line
-        (λ n below. sym (over-read facts read items answers h (line_at items n).cpu.number (over-there n below))))
+        values-found facts (values_of lanes) told items [] items refl
+        (All-from_get_or (λ (item : GroupItem). Found facts items (values_of lanes) told item.cpu.number) items no_line
+        (λ n below.
+        let c = (line_at items n).cpu.number in
+        let there = over-there n below in
+        let is = sym (over-read facts read items lanes h c there) in
+        record {
+          steps = there.steps;
+          of_lines = subst (λ (answers : List GroupAnswer).
+              AreOfLines facts (lane_lines c items) answers there.steps) is there.of_lines;
+          told = there.told ∙ ap values_among is;
+        }))

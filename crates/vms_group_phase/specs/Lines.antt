@@ -1,6 +1,6 @@
 -- The lines of a phase: whose they are, what they spend, and what they change.
-use Rattle.std.specs.Prelude.{ℕ, zero, suc, ◌+◌, nat_eq, Bool, true, false, List, [], ◌∷◌, ◌++◌, length, filter}
-use Rattle.std.specs.Prelude.{if◌then◌else◌, ℤ, pos, ◌+ℤ◌}
+use Rattle.std.specs.Prelude.{◌≡◌, ℕ, zero, suc, ◌+◌, nat_eq, Bool, true, false, List, [], ◌∷◌, ◌++◌, length, filter}
+use Rattle.std.specs.Prelude.{if◌then◌else◌, ℤ, pos, ◌+ℤ◌, slice_index}
 use Rattle.vms_group_core.specs.declared.call_values.GroupCall.{GroupCall}
 use Rattle.vms_group_core.specs.declared.call_values.GroupCall.TheVariants.{Change, Flush, Value}
 use Rattle.vms_group_core.specs.declared.trees.Tree.{Tree}
@@ -21,6 +21,20 @@ pub record IsLineOf (tree : Tree) (item : GroupItem) : Type 0 where
 -- the lines of the lane of CPU c, in their order
 abbrev pub lane_lines : ℕ → List GroupItem → List GroupItem
 lane_lines c items = filter (λ item. nat_eq item.cpu.number c) items
+
+-- the number of each CPU is how many of these lines its lane has
+pub record AreCounted (tree : Tree) (counts : List ℕ) (items : List GroupItem) : Type 0 where
+  pub one_each : length counts ≡ tree.cpus
+  pub each : (c : ℕ) → IsTreeCpu tree c → slice_index counts c ≡ length (lane_lines c items)
+
+-- whether a call asks for a value
+abbrev pub asks : GroupCall → Bool
+asks (Value g) = true
+asks _ = false
+
+-- those of the lines that ask for a value, in their order
+abbrev pub asking : List GroupItem → List GroupItem
+asking lines = filter (λ line. asks line.call) lines
 
 -- whether there is a line
 abbrev pub has_some : List GroupItem → Bool

@@ -71,6 +71,12 @@ abbrev pub value_in : GroupAnswer → ℤ
 value_in (Answers v) = v
 value_in Done = pos 0
 
+-- the values among answers, in their order
+abbrev pub values_among : List GroupAnswer → List ℤ
+values_among [] = []
+values_among (Answers v ∷ answers) = v ∷ values_among answers
+values_among (Done ∷ answers) = values_among answers
+
 -- what a line answers with a value, if it asks for one: the lane's next answer after those of its lines above
 abbrev pub value_of_line : (ℕ → List GroupAnswer) → (above : List GroupItem) → GroupItem → GroupCall
     → List NumberedValue

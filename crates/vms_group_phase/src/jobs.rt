@@ -1,14 +1,16 @@
-ghost use Rattle.std.specs.Prelude.{◌≡◌, ℕ, ◌+◌, ◌*◌, ◌<◌, ◌≤◌, suc, [], All, IfOk, OnOk, filter, length, nat_eq};
+ghost use Rattle.std.specs.Prelude.{◌≡◌, ℕ, ◌+◌, ◌++◌, ◌*◌, ◌<◌, ◌≤◌, suc, [], ◌∷◌, All, IfOk, OnOk, length};
 ghost use Rattle.std.specs.Prelude.{slice_index};
 ghost use Rattle.vms_history.specs.Common.{cell};
 ghost use Rattle.vms_group_core.specs.Common.{IsGroup, IsTreeCpu, group_count};
 ghost use Rattle.vms_group_phase.specs.LaneRuns.{HasRoom, HasRunJob, MayRunJob, RunsLines};
 ghost use Rattle.vms_group_phase.specs.Lanes.{HaveBegunLanes};
-ghost use Rattle.vms_group_phase.specs.Lines.{group_of, lane_lines, spent_by_lines};
+ghost use Rattle.vms_group_phase.specs.Lines.{AreCounted, group_of, lane_lines, spent_by_lines};
+ghost use Rattle.vms_group_phase.specs.Phases.{values_among};
 ghost use Rattle.vms_group_phase.specs.Worlds.{FitVolumes};
 ghost use Rattle.vms_seats.specs.Common.{IsFrom};
 
 use crate::calls::make_call;
+use crate::counted_items::{CountedItems, count_items};
 use crate::items::GroupItem;
 use std::alloc::Global;
 use vms_base::{CpuId, Memory, Row, Volume};
@@ -16,79 +18,101 @@ use vms_group::{GroupMain, GroupPass, GroupTable};
 use vms_group_core::GroupAnswer;
 use vms_lane::Gate;
 
-/// A lane that is to run: its pass and its lines.
+/// A lane that is to run: its pass, and the lines of the phase, among which its own stand.
 #[derive(Drop)]
-pub(crate) struct LaneJob {
+pub(crate) struct LaneJob<'a> {
     pub cpu: CpuId,
     pub pass: GroupPass,
-    pub lines: Vec<GroupItem>,
+    pub items: &'a [GroupItem],
+    /// How many of the lines are its own.
+    pub count: usize,
 }
 
-/// A lane that has run: its pass, and what each of its lines answers.
+/// A lane that has run: its pass, and the values that its lines found which ask for one.
 #[derive(Drop)]
 pub(crate) struct LaneDone {
     pub cpu: CpuId,
     pub pass: GroupPass,
-    pub answers: Vec<GroupAnswer>,
+    pub values: Vec<i64>,
 }
 
-/// Makes the lines of a lane, whatever the other lanes make meanwhile.
+/// Makes the lines of a lane, whatever the other lanes make meanwhile. Room for a value of each is reserved first.
 pub(crate) fn run_job<G: Gate>(
     alloc: Global,
     gate: &G,
     table: &GroupTable,
-    job: LaneJob,
+    job: LaneJob<'_>,
 ) -> Result<LaneDone, Memory>
     requires { MayRunJob table.now job }
-    ensures { IfOk result (λ done. HasRunJob table.now job done) }
+    ensures { IfOk result (λ done. HasRunJob table.now job.entry done) }
 {
     let LaneJob {
         cpu,
         mut pass,
-        lines,
+        items,
+        count,
     } = job;
-    let answers = make_lines(alloc, gate, table, &mut pass, cpu, lines.as_slice())?;
-    Ok(LaneDone { cpu, pass, answers })
+    let mut values = Vec::with_capacity(alloc, count)?;
+    make_lines(gate, table, &mut pass, cpu, items, &mut values)?;
+    Ok(LaneDone { cpu, pass, values })
 }
 
-/// Makes lines one after another, and returns what each answers. Calls the gate before each.
+/// Makes the lines of a CPU's lane one after another, and passes over those of others. Calls the gate before each, and
+/// appends the values that they find.
 fn make_lines<G: Gate>(
-    alloc: Global,
     gate: &G,
     table: &GroupTable,
     pass: &mut GroupPass,
     cpu: CpuId,
-    lines: &[GroupItem],
-) -> Result<Vec<GroupAnswer>, Memory>
+    items: &[GroupItem],
+    values: &mut Vec<i64>,
+) -> Result<(), Memory>
     requires table { IsFrom pass.old.pass table.now }
-    requires named { All (λ item. IsGroup table.now.facts.tree (group_of item.call)) lines.now }
-    requires room { HasRoom table.now.facts.tree (spent_by_lines lines.now) pass.old.volume }
-    ensures { IfOk result (λ answers. RunsLines table.now.facts lines.now answers.items pass.new pass.old) }
+    requires named { All (λ item. IsGroup table.now.facts.tree (group_of item.call)) items.now }
+    requires room { HasRoom table.now.facts.tree (spent_by_lines (lane_lines cpu.number items.now)) pass.old.volume }
+    requires none { values.old.items ≡ [] }
+    ensures { OnOk result (RunsLines table.now.facts (lane_lines cpu.number items.now) values.new.items pass.new
+        pass.old) }
 {
     pass.cpu();
-    let mut answers = Vec::with_capacity(alloc, lines.len())?;
-    for line in lines {
-        gate.at(cpu.number, line.number);
-        answers.push(make_call(table, pass, line.call))?;
+    for item in items {
+        if item.cpu.number == cpu.number {
+            gate.at(cpu.number, item.number);
+            let answer = make_call(table, pass, item.call);
+            keep_value(values, answer)?;
+        }
     }
-    Ok(answers)
+    Ok(())
+}
+
+/// Appends the value in an answer, if it has one.
+#[inline]
+fn keep_value(values: &mut Vec<i64>, answer: GroupAnswer) -> Result<(), Memory>
+    ensures { OnOk result (values.new.items ≡ values.old.items ++ values_among (answer ∷ [])) }
+{
+    if let GroupAnswer::Value(value) = answer {
+        values.push(value)?;
+    }
+    Ok(())
 }
 
 /// Begins the passes of the lanes that have lines, in the order of their CPUs, from a table in which nothing was made
 /// yet, with the volumes that the CPUs have.
-pub(crate) fn begin_lanes(
+pub(crate) fn begin_lanes<'a>(
     alloc: Global,
     table: &GroupTable,
     main: &mut GroupMain,
     volumes: &Row<u64>,
-    items: &[GroupItem],
-) -> Result<Vec<LaneJob>, Memory>
+    items: &'a [GroupItem],
+) -> Result<Vec<LaneJob<'a>>, Memory>
     requires of { IsFrom main.old table.now }
     requires nothing { main.old.seen ≡ [] }
     requires one_each { length volumes.now ≡ table.now.facts.tree.cpus * group_count table.now.facts.tree }
     requires fit { FitVolumes table.now.facts.tree volumes.now items.now }
     ensures { IfOk result (λ jobs. HaveBegunLanes table.now items.now table.now.facts.tree.cpus main.new jobs.items) }
 {
+    let counts = count_items(alloc, table.tree(), items)?;
+    let counted = CountedItems { items, counts };
     let mut jobs = Vec::new(alloc);
     for number in 0..table.tree().cpus {
         begin_next(
@@ -96,7 +120,7 @@ pub(crate) fn begin_lanes(
             table,
             main,
             volumes,
-            items,
+            &counted,
             CpuId { number },
             &mut jobs,
         )?;
@@ -105,42 +129,35 @@ pub(crate) fn begin_lanes(
 }
 
 /// Begins the pass of a CPU's lane, if it has lines.
-fn begin_next(
+fn begin_next<'a>(
     alloc: Global,
     table: &GroupTable,
     main: &mut GroupMain,
     volumes: &Row<u64>,
-    items: &[GroupItem],
+    counted: &CountedItems<'a>,
     cpu: CpuId,
-    jobs: &mut Vec<LaneJob>,
+    jobs: &mut Vec<LaneJob<'a>>,
 ) -> Result<(), Memory>
     requires one_each { length volumes.now ≡ table.now.facts.tree.cpus * group_count table.now.facts.tree }
-    requires fit { FitVolumes table.now.facts.tree volumes.now items.now }
+    requires fit { FitVolumes table.now.facts.tree volumes.now counted.now.items.now }
+    requires counts { AreCounted table.now.facts.tree counted.now.counts counted.now.items.now }
     requires cpu { IsTreeCpu table.now.facts.tree cpu.number }
-    requires below { HaveBegunLanes table.now items.now cpu.number main.old jobs.old.items }
-    ensures { OnOk result (HaveBegunLanes table.now items.now (suc cpu.number) main.new jobs.new.items) }
+    requires below { HaveBegunLanes table.now counted.now.items.now cpu.number main.old jobs.old.items }
+    ensures { OnOk result (HaveBegunLanes table.now counted.now.items.now (suc cpu.number) main.new jobs.new.items) }
 {
     main.is_main();
-    let lines = lines_of(alloc, items, cpu)?;
-    if !lines.is_empty() {
+    let count = counted.counts.get(cpu.number as usize);
+    if count > 0 {
         let volume = volume_of(alloc, volumes, table.tree().parents.len(), cpu)?;
         let pass = table.cpu_pass(main, cpu, volume);
-        jobs.push(LaneJob { cpu, pass, lines })?;
+        jobs.push(LaneJob {
+            cpu,
+            pass,
+            items: counted.items,
+            count,
+        })?;
     }
     Ok(())
-}
-
-/// The lines of a CPU's lane.
-fn lines_of(alloc: Global, items: &[GroupItem], cpu: CpuId) -> Result<Vec<GroupItem>, Memory>
-    ensures { IfOk result (λ lines. lines.items ≡ lane_lines cpu.number items.now) }
-{
-    Ok(
-        items
-            .iter()
-            .copied()
-            .filter(|item| item.cpu.number == cpu.number)
-            .collect(alloc)?,
-    )
 }
 
 /// The volumes of a CPU by group, among those of all CPUs.

@@ -3,6 +3,7 @@
 #![tactic(auto)]
 
 mod calls;
+mod counted_items;
 mod items;
 mod jobs;
 mod lanes;

@@ -52,8 +52,8 @@ pub fn run_group_phase<R: Threads + Sync, G: Gate>(
         mut volumes,
     } = world;
     let (table, mut main) = GroupTable::make(alloc, tree, &words)?;
-    let answers = run_lanes(rt, alloc, gate, &table, &mut main, &volumes, items)?;
-    let values = values_in_order(alloc, answers.as_slice(), items)?;
+    let lanes = run_lanes(rt, alloc, gate, &table, &mut main, &volumes, items)?;
+    let values = values_in_order(alloc, lanes.as_slice(), items)?;
     let history = table.close(main, &mut words);
     history.is_complete();
     grow_volumes(&mut volumes, tree, items);

@@ -15,17 +15,17 @@ pub(crate) fn run_jobs<R: Threads + Sync, G: Gate>(
     alloc: Global,
     gate: &G,
     table: &GroupTable,
-    jobs: Vec<LaneJob>,
+    jobs: Vec<LaneJob<'_>>,
 ) -> Result<Vec<Result<LaneDone, Memory>>, Memory>
     requires { All (MayRunJob table.now) jobs.items }
-    ensures { IfOk result (λ results. HaveRunJobs table.now jobs.items results.items) }
+    ensures { IfOk result (λ results. HaveRunJobs table.now jobs.entry.items results.items) }
 {
     let results = thread::map_vec(
         rt,
         jobs,
-        &|job: LaneJob| -> Result<LaneDone, Memory>
+        &|job: LaneJob<'_>| -> Result<LaneDone, Memory>
             requires { MayRunJob table.now job }
-            ensures { IfOk result (HasRunJob table.entry.now job) }
+            ensures { IfOk result (HasRunJob table.entry.now job.entry) }
         { run_job(alloc, gate, table, job) },
     )?;
     Ok(results)

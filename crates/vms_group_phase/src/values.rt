@@ -1,65 +1,51 @@
-ghost use Rattle.std.specs.Prelude.{◌≡◌, ℕ, suc, ◌<◌, ◌≤◌, [], All, IfOk, length, slice_index, slice_index_or};
+ghost use Rattle.std.specs.Prelude.{◌≡◌, ℕ, suc, ◌<◌, ◌≤◌, [], All, IfOk, length, pos, slice_index, slice_index_or};
 ghost use Rattle.std.specs.Prelude.{slice_set};
-ghost use Rattle.vms_group_core.specs.declared.call_values.GroupAnswer.TheVariants.{Done};
-ghost use Rattle.vms_group_phase.specs.Lanes.{answers_of};
-ghost use Rattle.vms_group_phase.specs.Lines.{lane_lines};
-ghost use Rattle.vms_group_phase.specs.Phases.{value_in as number_in, values_after};
+ghost use Rattle.vms_group_phase.specs.Lanes.{taken_after, values_of};
+ghost use Rattle.vms_group_phase.specs.Lines.{asking, lane_lines};
 
 use crate::items::{GroupItem, NumberedValue};
-use crate::lanes::LaneAnswers;
+use crate::lanes::LaneValues;
 use std::alloc::Global;
 use vms_base::{CpuId, Memory, Row};
-use vms_group_core::{GroupAnswer, GroupCall};
+use vms_group_core::GroupCall;
 
-/// The values that the lines of a phase ask for, in the order of the lines, from what each lane answers, by CPU.
+/// The values that the lines of a phase ask for, in the order of the lines, from what each lane found, by CPU.
 pub(crate) fn values_in_order(
     alloc: Global,
-    answers: &[LaneAnswers],
+    lanes: &[LaneValues],
     items: &[GroupItem],
 ) -> Result<Vec<NumberedValue>, Memory>
-    requires cpus { All (λ item. item.cpu.number < length answers.now) items.now }
-    requires enough { All (λ item. length (lane_lines item.cpu.number items.now)
-        ≤ length (answers_of answers.now item.cpu.number)) items.now }
-    ensures { IfOk result (λ values. values.items ≡ values_after (answers_of answers.now) [] items.now) }
+    requires cpus { All (λ item. item.cpu.number < length lanes.now) items.now }
+    requires enough { All (λ item. length (asking (lane_lines item.cpu.number items.now))
+        ≤ length (values_of lanes.now item.cpu.number)) items.now }
+    ensures { IfOk result (λ values. values.items ≡ taken_after (values_of lanes.now) [] items.now) }
 {
-    let mut counts = Row::filled(alloc, answers.len(), 0)?;
+    let mut counts = Row::filled(alloc, lanes.len(), 0)?;
     let mut values = Vec::new(alloc);
     for item in items {
-        let answer = next_answer(answers, &mut counts, item.cpu);
         if let GroupCall::Value(_) = item.call {
             values.push(NumberedValue {
                 number: item.number,
-                value: value_in(answer),
+                value: next_value(lanes, &mut counts, item.cpu),
             })?;
         }
     }
     Ok(values)
 }
 
-/// The next answer of a CPU's lane. `counts` has how many of each lane were taken.
+/// The next value of a CPU's lane. `counts` has how many of each lane were taken.
 #[inline]
-fn next_answer(answers: &[LaneAnswers], counts: &mut Row<usize>, cpu: CpuId) -> GroupAnswer
-    requires cpu { cpu.number < length answers.now }
-    requires one_each { length counts.old ≡ length answers.now }
-    requires left { slice_index counts.old cpu.number < length (answers_of answers.now cpu.number) }
-    ensures answer { result ≡ slice_index_or (answers_of answers.now cpu.number)
-        (slice_index counts.old cpu.number) Done }
+fn next_value(lanes: &[LaneValues], counts: &mut Row<usize>, cpu: CpuId) -> i64
+    requires cpu { cpu.number < length lanes.now }
+    requires one_each { length counts.old ≡ length lanes.now }
+    requires left { slice_index counts.old cpu.number < length (values_of lanes.now cpu.number) }
+    ensures value { result ≡ slice_index_or (values_of lanes.now cpu.number) (slice_index counts.old cpu.number)
+        (pos 0) }
     ensures counts { counts.new ≡ slice_set counts.old cpu.number (suc (slice_index counts.old cpu.number)) }
 {
     let lane = cpu.number as usize;
     let next = counts.get(lane);
-    let answer = answers[lane].items[next];
+    let value = lanes[lane].items[next];
     counts.set(lane, next + 1);
-    answer
-}
-
-/// The value in an answer, or 0 if it has none.
-#[inline]
-fn value_in(answer: GroupAnswer) -> i64
-    ensures { result ≡ number_in answer }
-{
-    match answer {
-        GroupAnswer::Done => 0,
-        GroupAnswer::Value(value) => value,
-    }
+    value
 }

@@ -1,8 +1,8 @@
--- The answers stand in the lane's place, and all others as before.
-use Rattle.vms_group_phase.proofs.EndedLanes.{answers_of-set}
+-- The values stand in the lane's place, and all others as before.
+use Rattle.vms_group_phase.proofs.EndedLanes.{values_of-set}
 use Rattle.vms_group_phase.proofs.lanes.join_lane.Goals as goal
 
-pub returns-clause-answers : goal.returns-clause-answers
-returns-clause-answers c lane =
-    answers_of-set c.args.answers.now.items c.args.done.cpu.number lane (record { items = c.args.done.answers })
+pub returns-clause-values : goal.returns-clause-values
+returns-clause-values c lane =
+    values_of-set c.args.values.now.items c.args.done.cpu.number lane (record { items = c.args.done.values })
     c.requires.place

@@ -14,12 +14,12 @@ loop-result-init g c =
     let table = c.args.table.now in
     let items = c.args.items.now in
     let main = c.begin_lanes.new.main in
-    let answers = c.in_ok-answers.answers.items in
+    let values = c.in_ok-values.values.items in
     let results = c.in_ok-results.results in
     let gives = c.into_iter-result-iterator.ensures.into_iter_gives in (
-      subst (λ (list : List (Result LaneDone Memory)). HaveEndedLanes table items main answers list) (sym gives.0)
-          (ended-none table items main c.in_ok-jobs.jobs.items answers results.items c.in_ok-jobs.ensures
-          c.in_ok-results.ensures (c.in_ok-answers.ensures ∙ ap (λ (tree : Tree). tree.cpus) c.tree.ensures)),
+      subst (λ (list : List (Result LaneDone Memory)). HaveEndedLanes table items main values list) (sym gives.0)
+          (ended-none table items main c.in_ok-jobs.jobs.items values results.items c.in_ok-jobs.ensures
+          c.in_ok-results.ensures (c.in_ok-values.ensures ∙ ap (λ (tree : Tree). tree.cpus) c.tree.ensures)),
       omega (arith, gives.1, results.ok.0, ap length gives.0),
     )
 
@@ -28,38 +28,38 @@ join_lane-requires-clause-of g c =
     let table = c.args.table.now in
     let items = c.args.items.now in
     let old = c.loop-result.main in
-    let answers = c.loop-result.answers.items in
+    let values = c.loop-result.values.items in
     let rest = into_iter_items c.next.new.self in
-    let have = ended-head table items old answers (into_iter_items c.loop-result.result-iterator) rest c.in-Some.result
+    let have = ended-head table items old values (into_iter_items c.loop-result.result-iterator) rest c.in-Some.result
     c.in_ok-done.done c.in-Some.ensures.steps.0 c.in_ok-done.was c.loop-result.invariant.0 in
-    next-from table items old answers c.in_ok-done.done rest have
+    next-from table items old values c.in_ok-done.done rest have
 
 pub join_lane-requires-clause-place : goal.join_lane-requires-clause-place
 join_lane-requires-clause-place g c =
     let table = c.args.table.now in
     let items = c.args.items.now in
     let old = c.loop-result.main in
-    let answers = c.loop-result.answers.items in
+    let values = c.loop-result.values.items in
     let rest = into_iter_items c.next.new.self in
-    let have = ended-head table items old answers (into_iter_items c.loop-result.result-iterator) rest c.in-Some.result
+    let have = ended-head table items old values (into_iter_items c.loop-result.result-iterator) rest c.in-Some.result
     c.in_ok-done.done c.in-Some.ensures.steps.0 c.in_ok-done.was c.loop-result.invariant.0 in
-    next-place table items old answers c.in_ok-done.done rest have
+    next-place table items old values c.in_ok-done.done rest have
 
 pub loop-result-preserved : goal.loop-result-preserved
 loop-result-preserved g c =
     let table = c.args.table.now in
     let items = c.args.items.now in
     let old = c.loop-result.main in
-    let answers = c.loop-result.answers.items in
+    let values = c.loop-result.values.items in
     let rest = into_iter_items c.next.new.self in
-    let have = ended-head table items old answers (into_iter_items c.loop-result.result-iterator) rest c.in-Some.result
+    let have = ended-head table items old values (into_iter_items c.loop-result.result-iterator) rest c.in-Some.result
     c.in_ok-done.done c.in-Some.ensures.steps.0 c.in_ok-done.was c.loop-result.invariant.0 in
     let ends = c.join_lane.ensures in
     let was = c.loop-result.invariant.1 in
     let gone = c.in-Some.ensures.steps.1 in
     let short = ap length c.in-Some.ensures.steps.0 in (
-      ended-next table items old answers c.in_ok-done.done rest have c.join_lane.new.main
-          c.join_lane.new.answers.items ends.ended ends.one_each ends.answers,
+      ended-next table items old values c.in_ok-done.done rest have c.join_lane.new.main
+          c.join_lane.new.values.items ends.ended ends.one_each ends.values,
       omega (arith, was, gone, short),
     )
 
@@ -67,5 +67,5 @@ pub returns : goal.returns
 returns g c =
     let was = c.loop-result.invariant.1 in
     let over = c.in-None.ensures.steps.0 in
-    all-ended c.args.table.now c.args.items.now c.loop-result.main c.loop-result.answers.items
+    all-ended c.args.table.now c.args.items.now c.loop-result.main c.loop-result.values.items
     (into_iter_items c.loop-result.result-iterator) (omega (arith, was, over)) c.loop-result.invariant.0

@@ -6,5 +6,5 @@ use Rattle.vms_group_phase.proofs.lanes.run_lanes.Given as goal
 
 abbrev pub invariant-loop-result : goal.invariant-loop-result
 invariant-loop-result g l =
-    HaveEndedLanes l.table l.items l.main l.answers.items (into_iter_items l.result-iterator)
+    HaveEndedLanes l.table l.items l.main l.values.items (into_iter_items l.result-iterator)
     × (into_iter_len l.result-iterator ≡ length (into_iter_items l.result-iterator))
