@@ -1,11 +1,13 @@
 #!/usr/bin/env python3
 """Loads the page of each trace in a browser: pages.py PROGRAM TRACE.., with the path of the built program.
 
-Read back are all numbers of the page, of which the plain values and the snapshots have to be those that the program
-answers to `val` and `snap` lines that tools/probe.py puts into the trace, and what the page says of one line. Of the
-first trace, keys and the pointer have to choose the lines that they are for, and texts have to stand out, both where
-light and where dark colours are preferred. An error of the page's script, or anything that it says to the console,
-fails. Where no Chromium is installed, the pages are made and not loaded."""
+Read back is what a reader sees. The page opens at the worst moment: its heading, its line and its numbers there have to
+be those of the program, which answers `val`, `snap` and a report of totals for the trace up to that line. So have all
+plain values and snapshots of the page's tables, against `val` and `snap` lines that tools/probe.py puts into the trace,
+and what the trace's own lines answer. At 400 pixels no text is lower than 11 pixels, none lies on another one, nothing
+lies over a chart, and the page is no wider. Of the first trace, keys, pointer and taps have to choose the lines that
+they are for, and texts have to stand out in light and in dark colours. Whatever a page says to the console fails. Where
+no Chromium is installed, the pages are made and not loaded."""
 import html
 import json
 import pathlib
@@ -21,25 +23,72 @@ import page  # noqa: E402
 import vmtrace  # noqa: E402
 
 BROWSERS = ("chromium", "chromium-browser", "google-chrome")
-ROW = re.compile(r"<tr><td>(\d+)</td><td>Node (\d+), zone (\w+)</td>((?:<td>-?\d+</td>){5})</tr>")
+NARROW, WINDOW, LIGHT, DARK = 400, "1200,900", "1", "0"
+# A browser's own window is wider than a phone, so a narrow page stands in a frame, out of which its trial is copied.
+FRAME = """<!DOCTYPE html><iframe style="width: {width}px; height: 880px; border: 0" srcdoc="{page}"></iframe>
+<pre id="read"></pre><script>onload = () => {{
+  const inside = document.querySelector("iframe").contentDocument;
+  document.getElementById("read").textContent = inside.getElementById("tried").textContent; }};</script>"""
 READING = re.compile(r"line (\d+): (value|snapshot) (\d+)$")
-# What stands below a page that is tried: it presses keys, points at a line, and writes which lines were chosen, and the
-# colours that texts have on the page and on the line that is told.
+ANSWERED = {"val": ("plain value", "value"), "snap": ("snapshot", "snapshot"), "rough": ("count", "count"),
+            "sum": ("true total", "sum"), "evsum": ("sum over the online CPUs", "events")}
+# What stands below a page that is tried. It writes what the page shows when it opens, its tables, what is wrong with
+# texts and charts, which lines keys, pointer and taps chose, and the colours of texts and of what is behind them.
 KEYS = ("Home", "ArrowRight", "ArrowDown", "End", "ArrowLeft", "ArrowUp", "Home", "PageDown", "PageUp", "a")
-TRIAL = """<pre id="tried"></pre><script>
-const picture = document.getElementById("picture"), lanes = picture.querySelector("svg"), box = lanes.viewBox.baseVal;
-const told = () => Number(picture.getAttribute("aria-valuenow")), colours = [];
+TRIAL = """<pre id="tried"></pre><script>{
+const seen = (name) => document.querySelector(name).textContent;
+const slider = document.getElementById("picture"), told = () => Number(slider.getAttribute("aria-valuenow"));
+const terms = [...document.querySelectorAll("dt")].map((term) => [term.textContent, term.nextSibling.textContent]);
+const opened = { heading: seen("h1"), line: told(), terms };
+
+const tables = [...document.querySelectorAll(".numbers")].map((details) => {
+  details.open = true;
+  details.dispatchEvent(new Event("toggle"));
+  return [...details.querySelectorAll("tr")].map((row) => [...row.children].map((cell) => cell.textContent)); });
+
+const faults = [], texts = [...document.body.querySelectorAll("*")].filter((element) => element.id !== "tried"
+  && !element.matches("script, style")
+  && [...element.childNodes].some((node) => node.nodeType === 3 && node.data.trim()));
+for (const element of texts) {
+  const high = parseFloat(getComputedStyle(element).fontSize) * (element.getScreenCTM?.().a ?? 1);
+  if (high < 11) faults.push(`${element.textContent} is ${high} pixels high`); }
+const charts = [...document.querySelectorAll("main svg")].filter((drawn) => !drawn.closest(".legend"));
+for (const drawn of charts) {
+  for (let n = 0; n < 200; n++) {
+    if (n % 100 === 0) drawn.scrollIntoView({ block: n ? "end" : "start" });
+    const box = drawn.getBoundingClientRect();
+    const x = box.x + box.width * (n % 10 + 0.5) / 10, y = box.y + box.height * (Math.floor(n % 100 / 10) + 0.5) / 10;
+    const isSeen = y > 0 && y < innerHeight;
+    if (isSeen && !drawn.contains(document.elementFromPoint(x, y))) faults.push(`a chart is covered at ${x}, ${y}`); }
+  const box = drawn.getBoundingClientRect();
+  const labels = [...drawn.querySelectorAll("text")].map((label) => [label.textContent, label.getBoundingClientRect()]);
+  labels.forEach(([one, at], n) => labels.slice(n + 1).forEach(([other, to]) => {
+    if (at.left < to.right - 1 && to.left < at.right - 1 && at.top < to.bottom - 3 && to.top < at.bottom - 3) {
+      faults.push(`'${one}' lies on '${other}'`); }
+    if (at.left < box.left - 1 || at.right > box.right + 1) faults.push(`'${one}' is cut`); })); }
+if (document.documentElement.scrollWidth > innerWidth) faults.push("the page is wider than its window");
+
 const pressed = KEYS.map((key) => {
-  picture.dispatchEvent(new KeyboardEvent("keydown", { key, bubbles: true, cancelable: true })); return told(); });
-const pointed = [...lanes.querySelectorAll("circle")].map((mark) => {
-  const at = mark.getBoundingClientRect();
-  lanes.dispatchEvent(new PointerEvent("pointermove", { clientX: at.x + at.width / 2 })); return told(); });
-const texts = [["body", "body"], [".quiet", "body"], ["#told code", "#told"], ["#told .quiet", "#told"]];
-for (const [text, behind] of texts) {
-  colours.push([getComputedStyle(document.querySelector(text)).color,
-    getComputedStyle(document.querySelector(behind)).backgroundColor]); }
-document.getElementById("tried").textContent = JSON.stringify({ pressed, pointed, colours });
-</script>""".replace("KEYS", json.dumps(KEYS))
+  slider.dispatchEvent(new KeyboardEvent("keydown", { key, bubbles: true, cancelable: true })); return told(); });
+slider.dispatchEvent(new KeyboardEvent("keydown", { key: "Escape" }));
+pressed.push(told());
+const lanes = slider.querySelector("svg"), marks = [...lanes.querySelectorAll(".at")];
+const sent = (type, mark) => {
+  const at = mark.getBoundingClientRect(), clientX = at.x + at.width / 2;
+  lanes.dispatchEvent(type === "click" ? new MouseEvent(type, { clientX })
+    : new PointerEvent(type, { clientX, pointerType: "mouse" })); return told(); };
+const pointed = marks.map((mark) => sent("pointermove", mark));
+const tapped = [["click", 1], ["pointermove", 0], ["click", 2], ["click", 2], ["pointermove", 0]].map(
+  ([type, n]) => sent(type, marks[n % marks.length]));
+
+const colours = [["body", "body"], [".quiet", "body"], [".legend li", "body"], ["#chosen code", "#told"],
+  ["#chosen .quiet", "#told"], ["dd", "#told"], ["#back", "#back"]].map(([text, behind]) =>
+  [getComputedStyle(document.querySelector(text)).color,
+    getComputedStyle(document.querySelector(behind)).backgroundColor]);
+colours.push([getComputedStyle(document.querySelector("main svg text")).fill, colours[0][1]]);
+document.getElementById("tried").textContent = JSON.stringify(
+  { opened, tables, faults, width: innerWidth, pressed, pointed, tapped, colours });
+}</script>""".replace("KEYS", json.dumps(KEYS))
 
 
 def run(*command, text=None):
@@ -47,58 +96,127 @@ def run(*command, text=None):
     return ended.returncode, ended.stdout, ended.stderr
 
 
+def narrow_of(file):
+    return file.with_stem(file.stem + "-narrow")
+
+
 def made(program, trace, to):
+    """The page of the trace, and what it has for its script."""
     status, text, errors = run(sys.executable, "-B", str(TOOLS / "page.py"), "--program", program, trace)
     if status:
         raise SystemExit(f"{trace}: {errors}")
+    text = text.replace("</body>", TRIAL + "</body>")
     to.write_text(text, encoding="ascii")
+    narrow_of(to).write_text(FRAME.format(width=NARROW, page=html.escape(text)), encoding="ascii")
+    return json.loads(re.search(r'id="data">(.*?)</script>', text, re.S)[1])
 
 
-def loaded(browser, file, line, home, *options):
-    """The page as it stands once its script has run and the line is chosen, by the browser's own account."""
-    status, dom, errors = run(browser, "--headless=new", "--no-sandbox", "--disable-gpu", f"--user-data-dir={home}",
-                              "--enable-logging=stderr", *options, "--dump-dom", f"{file.as_uri()}#line={line}")
+def loaded(browser, file, scheme, anchor=""):
+    """What is tried on the page, once it is loaded, where light or where dark colours are preferred."""
+    status, dom, errors = run(browser, "--headless=new", "--no-sandbox", "--disable-gpu",
+                              f"--user-data-dir={file.with_name('home')}", "--enable-logging=stderr",
+                              f"--window-size={WINDOW}", f"--blink-settings=preferredColorScheme={scheme}",
+                              "--dump-dom", file.as_uri() + anchor)
     said = [line for line in errors.splitlines() if "CONSOLE" in line]
-    if status or said:
+    found = re.search(r'<pre id="(?:tried|read)">({.+?})</pre>', dom, re.S)
+    if status or said or not found:
         raise SystemExit(f"{file.name}: status {status}: {said or errors}")
-    return dom
+    return json.loads(html.unescape(found[1]))
 
 
-def read_back(dom):
-    """The numbers of the page, by counter and line: plain value and snapshot."""
-    numbers = {}
-    for line, node, kind, cells in ROW.findall(dom):
-        value, snapshot = re.findall(r"-?\d+", cells)[:2]
-        numbers[f"{node} {kind} {page.vmtrace.ZONE_ITEMS[0]}", int(line)] = int(value), int(snapshot)
-    return numbers
+def number(text):
+    """The number with which a text of the page begins."""
+    return int(re.match(r"[+\u00b1]?(\u2212?[\d,]+)", text)[1].replace(",", "").replace("\u2212", "-"))
+
+
+def expect(what, found, wanted):
+    if found != wanted:
+        raise SystemExit(f"{what}: {found}, and not {wanted}")
 
 
 def answered(program, trace, counter):
-    """What the program answers to readings of the counter below each line of the trace, by line."""
+    """What the program answers to `val` and `snap` of the counter below each line of the trace, by line."""
     _, probed, _ = run(sys.executable, "-B", str(TOOLS / "probe.py"), trace, counter, "1")
     _, output, _ = run(program, "replay", text=probed)
     read = {int(found[1]): int(found[3]) for line in output.splitlines() if (found := READING.match(line))}
     answers, below, added = {}, 0, {f"k val {counter}", f"k snap {counter}"}
     own = vmtrace.lines_of(trace)
-    for number, line in enumerate(probed.splitlines(), 1):
+    for at, line in enumerate(probed.splitlines(), 1):
         if below < len(own) and line == own[below] and line not in added:
             below += 1
-        elif number in read:
-            answers.setdefault(below, []).append(read[number])
+        elif at in read:
+            answers.setdefault(below, []).append(read[at])
     return {line: tuple(pair) for line, pair in answers.items() if len(pair) == 2}
 
 
-def chosen_by_keys(shown):
-    """The lines that the keys choose one after another, from the last one on."""
-    at = len(shown) - 1
+def told_below(program, trace, line, counter):
+    """The plain value and the true total of a counter of pages below a line, as the program answers them."""
+    text = "\n".join([*vmtrace.lines_of(trace)[:line], f"k val {counter}", "report totals", ""])
+    _, output, _ = run(program, "replay", text=text)
+    value = re.search(rf"^line {line + 1}: value (\d+)$", output, re.M)[1]
+    return int(value), int(re.search(rf"^{counter} (-?\d+)$", output, re.M)[1])
+
+
+def rows_of(table):
+    """The rows of one of the page's tables, by line: texts by the names of their columns."""
+    heads, *rows = table
+    return {number(row[0]): dict(zip(heads, row)) for row in rows}
+
+
+def row_at(rows, line):
+    return rows[max(begin for begin in rows if begin <= line)]
+
+
+def check_worst(program, trace, figure, rows, opened):
+    """The page opens at the worst moment of its first counter, which its table and the program tell too."""
+    offs = {line: number(row["off by"]) for line, row in rows.items()}
+    most = max(map(abs, offs.values()))
+    terms, line = dict(opened["terms"]), opened["line"]
+    for name in ("true total", "off by", "proved bound"):
+        expect(f"{trace}: {name} of line {line}", terms[name].lstrip("\u00b1").split(", ")[0], row_at(rows, line)[name])
+    if not most:
+        expect(f"{trace}: heading", opened["heading"][:9], "Never off")
+        return
+    expect(f"{trace}: the first line", line, min(at for at, off in offs.items() if abs(off) == most))
+    says = re.match(r"Off by ([\d,]+).*? at lines? (\d+)", opened["heading"])
+    expect(f"{trace}: heading {opened['heading']}", (number(says[1]), int(says[2])), (most, line))
+    if figure["law"] == "pages":
+        value, total = told_below(program, trace, line, figure["name"])
+        shown = number(terms["plain value"]), number(terms["true total"])
+        expect(f"{trace}: plain value and true total of line {line}", shown, (value, total))
+
+
+def check_numbers(program, trace, figures, tables, lines):
+    """The tables have what the program answers; gives back how many numbers were compared."""
+    compared = 0
+    for figure, rows in zip(figures, tables):
+        answers = answered(program, trace, figure["name"]) if figure["law"] == "pages" else {}
+        for line, pair in answers.items():
+            row = row_at(rows, line)
+            expect(f"{trace}:{line}: {figure['name']}", (number(row["plain value"]), number(row["snapshot"])), pair)
+            compared += 1
+        name = figure["name"].removeprefix("counter ").removeprefix("event ")
+        for line, _, text, answer in lines:
+            words = text.split()
+            column, said = ANSWERED.get(" ".join(words[1:2]), ("", ""))
+            if " ".join(words[2:]) == name and answer.startswith(f"{said} ") and column in row_at(rows, line):
+                expect(f"{trace}:{line}: {figure['name']}", number(row_at(rows, line)[column]), int(answer.split()[1]))
+                compared += 1
+    return compared
+
+
+def chosen_by_keys(shown, first):
+    """The lines that the keys choose one after another, from the first view on, to which Escape leads back."""
+    at = start = next(n for n, line in enumerate(shown) if line[0] == first)
     for key in KEYS:
-        same = [number for number, line in enumerate(shown) if line[1] == shown[at][1]]
-        beside = {"ArrowUp": [number for number in same if number < at][-1:],
-                  "ArrowDown": [number for number in same if number > at][:1]}.get(key) or [at]
+        same = [n for n, line in enumerate(shown) if line[1] == shown[at][1]]
+        beside = {"ArrowUp": [n for n in same if n < at][-1:],
+                  "ArrowDown": [n for n in same if n > at][:1]}.get(key) or [at]
         steps = {"Home": 0, "End": len(shown) - 1, "ArrowLeft": at - 1, "ArrowRight": at + 1, "PageUp": at - 10,
                  "PageDown": at + 10}
         at = min(max(steps.get(key, beside[0]), 0), len(shown) - 1)
         yield shown[at][0]
+    yield shown[start][0]
 
 
 def contrast(*colours):
@@ -111,52 +229,39 @@ def contrast(*colours):
     return max(lights) / min(lights)
 
 
-def try_page(browser, file, last, folder):
-    """Keys, pointer and colours, in a page below which TRIAL stands."""
-    text = file.read_text(encoding="ascii")
-    shown = json.loads(re.search(r'id="data">(.*?)</script>', text, re.S)[1])["lines"]
-    tried = file.with_name("tried.html")
-    tried.write_text(text.replace("</body>", TRIAL + "</body>"), encoding="ascii")
-    backs = set()
-    for scheme in ("0", "1"):
-        dom = loaded(browser, tried, last, folder / "home", f"--blink-settings=preferredColorScheme={scheme}")
-        found = json.loads(html.unescape(re.search(r'<pre id="tried">(.*?)</pre>', dom, re.S)[1]))
-        for what, wanted in (("pressed", [*chosen_by_keys(shown)]), ("pointed", [line[0] for line in shown])):
-            if found[what] != wanted:
-                raise SystemExit(f"{file.name}: {what}: {found[what]}, and not {wanted}")
-        faint = [pair for pair in found["colours"] if contrast(*pair) < 4.5]
-        if faint:
-            raise SystemExit(f"{file.name}: texts don't stand out: {faint}")
-        backs.add(found["colours"][0][1])
-    if len(backs) != 2:
-        raise SystemExit(f"{file.name}: light and dark have one background, {backs}")
+def try_page(browser, file, data, narrow):
+    """Keys, pointer and taps, and colours where light and where dark ones are preferred."""
+    worst, shown = data["figures"][0]["worst"]["from"], data["lines"]
+    by_row = [line[0] for row in data["rows"] for line in shown if line[1] == row]
+    wide = loaded(browser, file, DARK, f"#line={by_row[-1]}")
+    expect(f"{file.name}: the line that the address names", wide["opened"]["line"], by_row[-1])
+    for tried in (narrow, wide):
+        expect(f"{file.name}: faults", tried["faults"], [])
+        expect(f"{file.name}: pointed", tried["pointed"], by_row)
+        expect(f"{file.name}: tapped", tried["tapped"], [by_row[1], by_row[1], by_row[2], worst, by_row[0]])
+        faint = [pair for pair in tried["colours"] if contrast(*pair) < 4.5]
+        expect(f"{file.name}: texts that don't stand out", faint, [])
+    expect(f"{file.name}: pressed", narrow["pressed"], [*chosen_by_keys(shown, worst)])
+    if narrow["colours"][0] == wide["colours"][0]:
+        raise SystemExit(f"{file.name}: light and dark have the same colours, {wide['colours'][0]}")
 
 
 def check(browser, program, trace, folder, is_first):
     file = folder / f"{pathlib.Path(trace).stem}.html"
-    made(program, trace, file)
+    data = made(program, trace, file)
     if browser is None:
         return
-    lines = vmtrace.lines_of(trace)
-    if is_first:
-        try_page(browser, file, len(lines), folder)
-    header = vmtrace.read_header(lines, trace)
-    number = next(n for n, line in enumerate(lines, 1) if n > header.lines and vmtrace.words_of(line))
-    dom = loaded(browser, file, number, folder / "home")
-    if f"line {number}: {' '.join(vmtrace.words_of(lines[number - 1]))}" not in html.unescape(dom):
-        raise SystemExit(f"{trace}: the page does not say what line {number} says")
-    numbers, compared = read_back(dom), 0
-    for node, kind in header.zones:
-        counter = f"{node} {kind} {vmtrace.ZONE_ITEMS[0]}"
-        for line, pair in answered(program, trace, counter).items():
-            if (counter, line) in numbers:
-                compared += 1
-                if numbers[counter, line] != pair:
-                    raise SystemExit(f"{trace}: {counter} below line {line}: the page has {numbers[counter, line]}, "
-                                     f"and the program answers {pair}")
+    tried = loaded(browser, narrow_of(file), LIGHT)
+    expect(f"{trace}: width and faults", (tried["width"], tried["faults"]), (NARROW, []))
+    tables = [rows_of(table) for table in tried["tables"]]
+    expect(f"{trace}: counters", len(tables), len(data["figures"]))
+    check_worst(program, trace, data["figures"][0], tables[0], tried["opened"])
+    compared = check_numbers(program, trace, data["figures"], tables, data["lines"])
     if not compared:
         raise SystemExit(f"{trace}: no number of the page was compared")
-    print(f"{trace}: {compared} readings agree")
+    if is_first:
+        try_page(browser, file, data, tried)
+    print(f"{trace}: {tried['opened']['heading']}; {compared} readings agree")
 
 
 def main(program, *traces):
@@ -164,8 +269,8 @@ def main(program, *traces):
     if browser is None:
         print("skipped: no Chromium is installed, so the pages are made and not loaded")
     with tempfile.TemporaryDirectory() as folder:
-        for number, trace in enumerate(traces):
-            check(browser, program, trace, pathlib.Path(folder), number == 0)
+        for place, trace in enumerate(traces):
+            check(browser, program, trace, pathlib.Path(folder), place == 0)
 
 
 if __name__ == "__main__":

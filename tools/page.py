@@ -1,13 +1,14 @@
 #!/usr/bin/env python3
-"""Makes one HTML file that shows a replay: a row for each lane with its lines, and for each zone a chart.
+"""Makes one HTML file that answers of a trace: how far off are its counters, when, and does the proved bound hold?
 
-A chart has the plain value of a zone item (free pages, unless --item names another), its snapshot, its true total,
-the watermarks, the drift mark, and the band in which the plain value can be. Pointing at a line, or the arrow keys,
-show what the line says, what it answered and where each zone stood then. The file asks nothing of any other machine.
+The page opens at the worst moment, of the counter that is furthest off, or of the one that --counter names. It charts
+the plain value minus the true total with the proved bound around it, and the plain value, the snapshot and the true
+total, of each counter of a zone or a node, each percpu counter and each event that changes. The rest is folded away.
+Pointing at a line, a tap or the keyboard choose another moment. The file asks nothing of any other machine.
 
 The numbers are those that the program prints: it replays the trace, and for each line that is read the trace up to it
-with two reports. It is the proved program once ./vozhkell has built it, or the one that --program names, such as the
-plain one of bench/replay.rs. The page goes to standard output:
+with three reports and the sums of events. It is the proved program once ./vozhkell has built it, or the one that
+--program names, such as the plain one of bench/replay.rs. The page goes to standard output:
 
   page.py examples/drift.vmtrace > page.html"""
 import interrupts  # first, for what it does
@@ -19,8 +20,10 @@ import sys
 import tempfile
 from contextlib import contextmanager
 from dataclasses import dataclass, field
+from itertools import groupby, zip_longest
 
 import drift
+import items
 import vmtrace
 from vmtrace import called
 
@@ -28,40 +31,156 @@ HERE = os.path.dirname(os.path.abspath(__file__))
 PROGRAM = os.path.join(os.path.dirname(HERE), "crates", "vozhkell", "out", "vozhkell")
 TEMPLATE = os.path.join(HERE, "page.html")
 MOST_LINES = 5_000
-MOST_READINGS = 500
+MOST_READINGS = 2_000
 MOST_PRINTED = 2**28
 MOST_LINE = 2**12
+MOST_EXACT = 2**53
 TEXT = ("ascii", "surrogateescape")
-REPORTS = ("report zoneinfo", "report totals")
+REPORTS = ("report zoneinfo", "report totals", "report counters")
+EVENTS = ("pgpgin", "pgpgout", "pswpin", "pswpout", "pgfree", "pgactivate", "pgdeactivate", "pgfault")
+QUESTIONS = (*REPORTS, *(f"k evsum {event}" for event in EVENTS))
 DONE = re.compile(r"done accepted \d+ refused \d+")
 LANE = re.compile(r"c[0-9]{1,20}")
 PRINTED = re.compile(r"line (\d+): (.*)$")
-ZONE = re.compile(r"Node (\d+), zone (\w+)$")
-CPU = re.compile(r"  cpu (\d+) (dead )?threshold (\d+) differentials ([-\d ]+)$")
+PLACE = re.compile(r"Node (\d+), (?:zone (\w+)|all zones)$")
+CPU = re.compile(r"  cpu \d+ (dead )?threshold (\d+) differentials ([-\d ]+)$")
 NUMBER = re.compile(r"  (drift mark|\w+) (\d+)$")
+PERCPU = re.compile(r"(\w+) batch (\d+) count (-?\d+) locals [-\d ]+ sum -?\d+$")
+AREA = re.compile(r"area([1-9]|10)")
 BETWEEN = "between phases"
 CONTROL = "control lane"
 
 
 @dataclass
 class Standing:
-    """What a report says of one zone, in pages: its numbers by name, and of each CPU that has not folded all."""
+    """What a report says of a zone or a node: its numbers by name, and by item what its CPUs haven't folded.
+
+    Present CPUs are those that are online or dead. What dead ones haven't folded is a part of the whole.
+    """
 
     numbers: dict[str, int] = field(default_factory=dict)
-    differentials: dict[int, list[int]] = field(default_factory=dict)
-    dead: set[int] = field(default_factory=set)
+    unfolded: list[int] = field(default_factory=list)
+    unfolded_by_dead: list[int] = field(default_factory=list)
+    threshold: int = 0
+    present: int = 0
+    dead: int = 0
 
-    def unfolded(self, item, with_dead):
-        """What CPUs have counted of an item, by its position, and not folded."""
-        return sum(counted[item] for cpu, counted in self.differentials.items() if with_dead or cpu not in self.dead)
+    def take_cpu(self, is_dead, threshold, differentials):
+        self.present += 1
+        self.threshold = max(self.threshold, threshold)
+        self.unfolded = added(self.unfolded, differentials)
+        self.unfolded_by_dead = added(self.unfolded_by_dead, differentials if is_dead else [0] * len(differentials))
+        self.dead += is_dead
+
+
+def added(one, other):
+    """The sums of the numbers of two lists, place by place."""
+    return [left + right for left, right in zip_longest(one, other, fillvalue=0)]
 
 
 @dataclass
 class Reading:
-    """What was read below one line of the trace: each zone by its name, and the totals by counter."""
+    """What was read below one line: zones and nodes by name, the totals, percpu counters and events by theirs.
 
-    zones: dict[str, Standing] = field(default_factory=dict)
+    Of a percpu counter it has the batch and the count, of an event the sum over the online CPUs.
+    """
+
+    places: dict[str, Standing] = field(default_factory=dict)
     totals: dict[str, int] = field(default_factory=dict)
+    percpu: dict[str, tuple[int, int]] = field(default_factory=dict)
+    events: dict[str, int] = field(default_factory=dict)
+
+    @property
+    def any_place(self):
+        """One of the places, all of which have the same CPUs."""
+        return next(iter(self.places.values()))
+
+
+@dataclass
+class Moment:
+    """The numbers of a counter below a line. The value and the snapshot may be negative, and are shown as 0 then.
+
+    The value is the global value, the count of a percpu counter, or the sum of an event over the online CPUs. `bound`
+    is how far it can be off the true total, or None where no law says it. A drift mark of 0 is none, and a snapshot is
+    None where there is none, as of events and percpu counters.
+    """
+
+    line: int
+    value: int
+    snapshot: int | None
+    total: int
+    bound: int | None = None
+    mark: int = 0
+
+    @property
+    def off(self):
+        return self.value - self.total
+
+    @property
+    def numbers(self):
+        return self.value, self.snapshot, self.total
+
+    def row(self):
+        return [exact(number) for number in
+                (self.line, self.value, self.snapshot, self.total, self.off, self.bound, self.mark)]
+
+
+@dataclass
+class Figure:
+    """What the page shows of one counter: a moment for each line that was read.
+
+    Its law is that of page counters, of percpu counters or of events, and its name the one that `report totals` has.
+    """
+
+    name: str
+    title: str
+    law: str
+    unit: str
+    moments: list[Moment]
+    marks: list[list] = field(default_factory=list)
+    counter: vmtrace.Counter | None = None
+
+    def changes(self):
+        return len({moment.numbers for moment in self.moments}) > 1
+
+    def take(self, bounds):
+        """Takes how far off the value can be below each line."""
+        for moment in self.moments:
+            moment.bound = bounds[moment.line]
+
+    def check(self, name):
+        """Every value keeps its bound."""
+        for moment in self.moments:
+            if moment.bound is not None and abs(moment.off) > moment.bound:
+                raise wrong(name, moment.line, self.name)
+
+    def most_off(self):
+        return max(abs(moment.off) for moment in self.moments)
+
+    def worst(self):
+        """When the value is furthest off: how far, the first and last line of it, and how often that comes.
+
+        Of one that is never off it is the moment where it can be off furthest.
+        """
+        most = self.most_off()
+        below = self.moments[1:] or self.moments
+        if not most:
+            first = max(below, key=lambda moment: moment.bound or 0)
+            return {"off": 0, "from": first.line, "to": first.line, "times": 0}
+        runs = [list(run) for off, run in groupby(below, key=lambda moment: moment.off) if abs(off) == most]
+        return {"off": runs[0][0].off, "from": runs[0][0].line, "to": runs[0][-1].line, "times": len(runs)}
+
+    def shown(self):
+        """The figure as the page's script reads it: a row wherever a number differs from those of the row above."""
+        rows = [moment.row() for moment in self.moments]
+        kept = [row for above, row in zip([None, *rows], rows) if above is None or row[1:] != above[1:]]
+        return {"name": self.name, "title": self.title, "law": self.law, "unit": self.unit, "marks": self.marks,
+                "worst": self.worst(), "rows": kept}
+
+
+def exact(number):
+    """A number as a script reads it without loss: a large one as a text."""
+    return number if number is None or abs(number) <= MOST_EXACT else str(number)
 
 
 def is_refused(answer):
@@ -78,10 +197,10 @@ def lane_of(words):
 
 
 def places_of(lines, header):
-    """The numbers of the lines below which zones are read: `go`, and as many others as may be, the last among them."""
+    """The numbers of the lines below which counters are read: `go`, and as many others as may be, the last too."""
     told = [number for number, line in enumerate(lines[header.lines:], header.lines + 1) if vmtrace.words_of(line)]
     step = -(-len(told) // MOST_READINGS) or 1
-    return [header.lines, *told[step - 1::step], *told[len(told) - len(told) % step:][-1:]]
+    return [header.lines, *told[step - 1::step], *told[len(told) - len(told) % step:][-1:]], step
 
 
 def output_of(program, lines):
@@ -131,20 +250,30 @@ def printed_by(program):
                                "docs/FORMATS.md") from None
 
 
-def read_zone_line(reading, zone, line):
-    """Takes a line of a report on zones into the reading; gives back the name of the zone that it is about, if one."""
-    if found := ZONE.match(line):
-        zone = f"{found[1]} {found[2]}"
-        reading.zones[zone] = Standing()
-    elif line.startswith("Node "):
-        return None
-    elif zone and (found := NUMBER.match(line)):
-        reading.zones[zone].numbers[found[1]] = int(found[2])
-    elif zone and (found := CPU.match(line)):
-        reading.zones[zone].differentials[int(found[1])] = [int(word) for word in found[4].split()]
-        if found[2]:
-            reading.zones[zone].dead.add(int(found[1]))
-    return zone
+def standings_of(report):
+    """The zones and nodes of a report on them, by name."""
+    places, standing = {}, None
+    for line in report:
+        if found := PLACE.match(line):
+            standing = places[f"{found[1]} {found[2] or 'node'}"] = Standing()
+        elif found := NUMBER.match(line):
+            standing.numbers[found[1]] = int(found[2])
+        elif found := CPU.match(line):
+            standing.take_cpu(found[1] is not None, int(found[2]), [int(word) for word in found[3].split()])
+    return places
+
+
+def totals_of(report):
+    """The totals of a report on them, by counter, event and percpu counter."""
+    return {name: int(value) for name, _, value in (line.rpartition(" ") for line in report)}
+
+
+def percpu_of(report):
+    """The batch and the count of each percpu counter of a report on them."""
+    found = list(map(PERCPU.match, report))
+    if None in found:
+        raise ValueError
+    return {counter[1]: (int(counter[2]), int(counter[3])) for counter in found}
 
 
 def answers_of(output):
@@ -154,22 +283,61 @@ def answers_of(output):
 
 
 def reading_below(place, lines, program):
-    """What two reports say at the end of a replay of the lines up to this one: so no line stands in another phase."""
-    output = output_of(program, [*lines[:place], *REPORTS])
+    """What reports say at the end of a replay of the lines up to this one: so no line stands in another phase."""
+    output = output_of(program, [*lines[:place], *QUESTIONS])
     begins = [output.index(f"line {place + n}: {report}") for n, report in enumerate(REPORTS, 1)]
-    reading, zone = Reading(), None
-    for line in output[begins[0] + 1:begins[1]]:
-        zone = read_zone_line(reading, zone, line)
-    for line in output[begins[1] + 1:-1]:
-        counter, _, value = line.rpartition(" ")
-        reading.totals[counter] = int(value)
-    return reading
+    sums = len(output) - 1 - len(EVENTS)
+    zoneinfo, totals, counters = (output[begin + 1:end] for begin, end in zip(begins, [*begins[1:], sums]))
+    events = {}
+    for n, (event, line) in enumerate(zip(EVENTS, output[sums:]), place + len(REPORTS) + 1):
+        events[event] = int(line.removeprefix(f"line {n}: events "))
+    return Reading(standings_of(zoneinfo), totals_of(totals), percpu_of(counters), events)
+
+
+def counters_of(header):
+    """All counters of zones and nodes, in the order of the header."""
+    nodes = dict.fromkeys((node, "node") for node, _ in header.zones)
+    for node, kind in [*header.zones, *nodes]:
+        for item in header.items["node" if kind == "node" else "zone"]:
+            yield vmtrace.Counter(node, kind, item)
+
+
+def unit_of(header, item):
+    """In what an item counts, or nothing where only the trace knows."""
+    if item in header.in_bytes:
+        return items.PAGES
+    if AREA.fullmatch(item):
+        return "free blocks"
+    return items.UNITS[item].name if item in items.UNITS else ""
+
+
+def page_figure(counter, header, readings, name):
+    """What was read of a counter of a zone or a node. Its bounds come later, if it is shown."""
+    is_zone, is_free = counter.kind != "node", counter.item == vmtrace.ZONE_ITEMS[0]
+    at = header.items["zone" if is_zone else "node"].index(counter.item)
+    moments = []
+    for line, reading in readings.items():
+        standing, total = reading.places[f"{counter.node} {counter.kind}"], reading.totals[str(counter)]
+        value = total - standing.unfolded[at]
+        snapshot = total - standing.unfolded_by_dead[at]
+        if max(0, value) != standing.numbers[counter.item]:
+            raise wrong(name, line, counter)
+        mark = standing.numbers["drift mark"] if is_free else 0
+        moments.append(Moment(line, value, snapshot, total, mark=mark))
+    size = header.zones[counter.node, counter.kind] if is_free else None
+    marks = [["min", size.min], ["low", size.low], ["high", size.high]] if size else []
+    place = f"node {counter.node}" + (f", zone {counter.kind}" if is_zone else "")
+    title, unit = f"{counter.item} of {place}", unit_of(header, counter.item)
+    return Figure(str(counter), title, "pages", unit, moments, marks, counter)
 
 
 def bounds_of(lines, header, counter, answers, places, name):
-    """How far the counter's plain value can be off below each of these lines, in pages."""
+    """How far the counter's global value can be off below each of these lines.
+
+    That is the sum of the thresholds that the CPUs used last on it.
+    """
     bound = drift.Bound(header, counter)
-    bounds, places = {header.lines: 0}, set(places)
+    bounds = {header.lines: 0}
     for number, line in enumerate(lines[header.lines:], header.lines + 1):
         words = vmtrace.words_of(line)
         if words and not is_refused(answers.get(number, "")):
@@ -179,26 +347,50 @@ def bounds_of(lines, header, counter, answers, places, name):
     return bounds
 
 
-def chart_of(counter, header, readings, bounds, name):
-    """What the page shows of a zone: its watermarks, and of each line that was read six numbers of pages.
+def percpu_figures(readings):
+    """The percpu counters. A count is off by at most the batch for each CPU that is online or dead."""
+    for counter in next(iter(readings.values())).percpu:
+        moments = []
+        for line, reading in readings.items():
+            (batch, count), total = reading.percpu[counter], reading.totals[f"counter {counter}"]
+            moments.append(Moment(line, count, None, total, batch * reading.any_place.present))
+        yield Figure(f"counter {counter}", f"percpu counter {counter}", "percpu", "", moments)
 
-    They are the line, the plain value and the snapshot, as the kernel shows them, the true total, how far the plain
-    value can be off it, and the drift mark.
+
+def event_figures(readings):
+    """The events. A sum over the online CPUs has all that was counted, unless a CPU is dead."""
+    for event in EVENTS:
+        moments = []
+        for line, reading in readings.items():
+            bound = None if reading.any_place.dead else 0
+            moments.append(Moment(line, reading.events[event], None, reading.totals[f"event {event}"], bound))
+        yield Figure(f"event {event}", f"event {event}", "events", "", moments)
+
+
+def wrong(name, line, counter):
+    return vmtrace.BadInput(f"{name}:{line}: what the program printed of {counter} is wrong: its plain value, its "
+                            "total and what CPUs hold don't fit together, or it is further off than the proved bound")
+
+
+def in_order(figures, asked):
+    """The figure that is asked for, then those that are ever off, then others that change, and the rest.
+
+    Of those, counters of pages come before percpu counters, and these before events, each the furthest off first.
     """
-    zone, size = f"{counter.node} {counter.kind}", header.zones[counter.node, counter.kind]
-    at, is_free = header.items["zone"].index(counter.item), counter.item == vmtrace.ZONE_ITEMS[0]
-    rows = []
-    for place, reading in readings.items():
-        standing, total = reading.zones[zone], reading.totals[str(counter)]
-        plain = total - standing.unfolded(at, with_dead=True)
-        snapshot = plain + standing.unfolded(at, with_dead=False)
-        if max(0, plain) != standing.numbers[counter.item] or abs(total - plain) > bounds[place]:
-            raise vmtrace.BadInput(f"{name}:{place}: what the program printed of {counter} is wrong: the plain value "
-                                   f"{standing.numbers[counter.item]}, unfolded {total - plain}, total {total}")
-        mark = standing.numbers["drift mark"] if is_free else 0
-        rows.append([place, max(0, plain), max(0, snapshot), total, bounds[place], mark])
-    marks = [["min", size.min], ["low", size.low], ["high", size.high]] if is_free else []
-    return {"name": f"Node {counter.node}, zone {counter.kind}", "marks": marks, "rows": rows}
+    laws = {law: place for place, law in enumerate(("pages", "percpu", "events"))}
+    return sorted(figures, key=lambda figure: (figure.name != asked, not figure.most_off(), not figure.changes(),
+                                               laws[figure.law], -figure.most_off()))
+
+
+def figures_of(header, readings, name, asked):
+    """The figures of all counters in their order: those that are shown, and those that never change."""
+    pages = [page_figure(counter, header, readings, name) for counter in counters_of(header)]
+    figures = in_order([*pages, *percpu_figures(readings), *event_figures(readings)], asked)
+    if asked and figures[0].name != asked:
+        raise vmtrace.BadInput(f"{name}: has no counter '{vmtrace.shown(asked)}'; the names are those of `report "
+                               "totals`, as '0 Normal nr_free_pages', 'counter files' or 'event pgfault'")
+    first, *others = figures
+    return [first, *filter(Figure.changes, others)], [figure for figure in others if not figure.changes()]
 
 
 def shown_lines(lines, header, answers):
@@ -217,31 +409,44 @@ def rows_of(shown):
     return [row for row in (BETWEEN, CONTROL) if row in used] + cpus
 
 
+def machine_of(header, reading):
+    """The machine as the first reading has it: its CPUs, each zone's pages and threshold, each percpu counter."""
+    zones = []
+    for (node, kind), size in header.zones.items():
+        threshold = reading.places[f"{node} {kind}"].threshold
+        zones.append({"name": f"node {node}, zone {kind}", "managed": size.managed, "threshold": threshold})
+    percpu = [{"name": name, "batch": batch} for name, (batch, _) in reading.percpu.items()]
+    return {"cpus": header.cpus, "zones": zones, "percpu": percpu}
+
+
 def page_of(lines, header, name, options):
+    places, step = places_of(lines, header)
     with printed_by(options.program):
         answers, done = answers_of(output_of(options.program, lines))
-        readings = {place: reading_below(place, lines, options.program) for place in places_of(lines, header)}
+        readings = {place: reading_below(place, lines, options.program) for place in places}
+        figures, steady = figures_of(header, readings, name, options.counter)
+    for figure in figures:
+        if figure.counter:
+            figure.take(bounds_of(lines, header, figure.counter, answers, readings, name))
+        figure.check(name)
     shown = list(shown_lines(lines, header, answers))
-    zones = []
-    for node, kind in header.zones:
-        counter = vmtrace.Counter(node, kind, options.item)
-        bounds = bounds_of(lines, header, counter, answers, readings, name)
-        with printed_by(options.program):
-            zones.append(chart_of(counter, header, readings, bounds, name))
     return {
         "title": os.path.basename(options.trace) if options.trace != "-" else "a trace",
-        "item": options.item,
         "done": done,
+        "machine": machine_of(header, readings[header.lines]),
+        "step": step,
+        "begin": header.lines,
         "rows": rows_of(shown),
         "lines": shown,
-        "zones": zones,
+        "figures": [figure.shown() for figure in figures],
+        "steady": [[figure.name, exact(figure.moments[0].value)] for figure in steady],
     }
 
 
 def parse(arguments):
     parser = vmtrace.Parser(__doc__)
     parser.add_argument("trace", metavar="TRACE", help="the trace, - for standard input")
-    parser.add_argument("--item", default=vmtrace.ZONE_ITEMS[0], help="the zone item to show")
+    parser.add_argument("--counter", help="the counter to answer of first: '0 Normal nr_free_pages', 'counter files'")
     parser.add_argument("--program", metavar="FILE", default=PROGRAM,
                         help="the program that replays, if not the one that ./vozhkell builds")
     return parser.parse_args(arguments)
@@ -252,8 +457,6 @@ def main(arguments):
     name = vmtrace.called(options.trace)
     lines = vmtrace.lines_of(options.trace)
     header = vmtrace.read_header(lines, name)
-    if options.item not in header.items["zone"]:
-        raise vmtrace.BadInput(f"{name}: zones have no item '{vmtrace.shown(options.item)}'")
     if len(lines) - header.lines > MOST_LINES:
         raise vmtrace.BadInput(f"{name}: has {len(lines) - header.lines:,} lines below 'go', and a page shows at most "
                                f"{MOST_LINES:,}")

@@ -7,6 +7,8 @@ import unittest
 from pathlib import Path
 
 from calls import SAMPLES, TOOLS
+from page import EVENTS
+from vmtrace import NODE_ITEMS, ZONE_ITEMS
 
 FREE = "0 Normal nr_free_pages"
 TRACE = f"vmtrace 1\ncpus 1\nzone 0 Normal 262144 100 125 150\nbase {FREE} 9\ngo\nk val {FREE}\n"
@@ -18,14 +20,23 @@ TOOL_WORDS = {
     "drift": ["trace", "answers"],
     "page": ["trace", "--program", "program"],
 }
-# Stands for the program: what it prints of TRACE, and of TRACE with two reports below it.
+# Stands for the program: what it prints of TRACE, and of TRACE with the questions of page.py below it.
 PROGRAM = f"""#!{sys.executable} -S
 import sys
 lines = sys.stdin.read().splitlines()
-if lines[-1].startswith("report"):
-    at = len(lines) - 1
-    print(f"line {{at}}: report zoneinfo", "Node 0, zone Normal", "  drift mark 0", "  nr_free_pages 9", sep="\\n")
-    print(f"line {{at + 1}}: report totals", "{FREE} 9", sep="\\n")
+if "report zoneinfo" in lines:
+    at = lines.index("report zoneinfo") + 1
+    zone, node = {{item: 0 for item in {ZONE_ITEMS}}}, {{item: 0 for item in {NODE_ITEMS}}}
+    zone["nr_free_pages"] = 9
+    cpu = "  cpu 0 threshold 10 differentials" + 8 * " 0"
+    print(f"line {{at}}: report zoneinfo", "Node 0, zone Normal", "  drift mark 0", sep="\\n")
+    print(*(f"  {{item}} {{value}}" for item, value in zone.items()), cpu, "Node 0, all zones", sep="\\n")
+    print(*(f"  {{item}} {{value}}" for item, value in node.items()), cpu, sep="\\n")
+    print(f"line {{at + 1}}: report totals")
+    print(*(f"0 Normal {{item}} {{value}}" for item, value in zone.items()), sep="\\n")
+    print(*(f"0 node {{item}} 0" for item in node), *(f"event {{event}} 0" for event in {EVENTS}), sep="\\n")
+    print(f"line {{at + 2}}: report counters")
+    print(*(f"line {{at + 3 + n}}: events 0" for n in range(8)), sep="\\n")
 print("done accepted 1 refused 0")
 """
 INTERRUPTED = """

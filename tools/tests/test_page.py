@@ -15,9 +15,12 @@ HEADER = """vmtrace 1
 cpus 2
 zone 0 Normal 262144 100 125 150
 base 0 Normal nr_free_pages 1000
+counter files 32
 go
 """
 BODY = """c1 mod 0 Normal nr_free_pages 3
+c1 ev pgfault 4
+c1 cnt files 9
 offline 1
 c0 mod 0 Normal nr_free_pages -5
 # a remark
@@ -25,34 +28,32 @@ c9 inc 0 Normal nr_free_pages
 k val 0 Normal nr_free_pages
 """
 ZEROS = " 0" * 7
-PROGRAM = f"""#!{sys.executable}
+OTHERS = [f"0 Normal {item}" for item in vmtrace.ZONE_ITEMS[1:]] + [f"0 node {item}" for item in vmtrace.NODE_ITEMS]
+# The script goes by the number of lines above the questions of page.py, as each line of BODY has its effect.
+PROGRAM = f"""#!{sys.executable} -IS
 import sys
 lines = sys.stdin.read().splitlines()
-own = [line for line in lines if not line.startswith("report")]
-answers = ["line 10: refused: UnknownLane", "line 11: value 1000"]
-print(*answers[:max(0, len(own) - 9)], sep="\\n")
-held = [-5 if len(own) > 7 else 0, 3 if len(own) > 5 else 0]
-dead = "dead " if len(own) > 6 else ""
-if len(own) < len(lines):
-    print(f'''line {{len(own) + 1}}: report zoneinfo
-Node 0, zone Normal
-  pages free 1000
-  min 100
-  low 125
-  high 150
-  managed 262144
-  drift mark 190
-  protection 0 0 0 0
-  nr_free_pages 1000
-  nr_mlock 0
-  cpu 0 threshold 20 differentials {{held[0]}}{ZEROS}
-  cpu 1 {{dead}}threshold 20 differentials {{held[1]}}{ZEROS}
-Node 0, all zones
-  cpu 0 threshold 20 differentials 9{ZEROS}
-line {{len(own) + 2}}: report totals
-0 Normal nr_free_pages {{1000 + sum(held)}}
-event pgfault 0''')
-print("done accepted 4 refused 1")
+above = lines.index("report zoneinfo") if "report zoneinfo" in lines else len(lines)
+answers = ["line 13: refused: UnknownLane", "line 14: value 1000"]
+print(*answers[:max(0, above - 12)], sep="\\n")
+free = [-5 if above > 10 else 0, 3 if above > 6 else 0]
+faults, files = 4 if above > 7 else 0, 9 if above > 8 else 0
+dead = "dead " if above > 9 else ""
+zoneinfo = ["Node 0, zone Normal", "  pages free 1000", "  min 100", "  drift mark 190", "  nr_free_pages 1000"]
+zoneinfo += [f"  {{item}} 0" for item in {vmtrace.ZONE_ITEMS[1:]}]
+zoneinfo += [f"  cpu {{n}} {{dead * n}}threshold 20 differentials {{free[n]}}{ZEROS}" for n in range(2)]
+zoneinfo += ["Node 0, all zones", *(f"  {{item}} 0" for item in {vmtrace.NODE_ITEMS})]
+zoneinfo += [f"  cpu {{n}} {{dead * n}}threshold 20 differentials 0{ZEROS}" for n in range(2)]
+totals = [f"0 Normal nr_free_pages {{1000 + sum(free)}}", *(f"{{name}} 0" for name in {OTHERS})]
+totals += [f"event {{event}} {{faults if event == 'pgfault' else 0}}" for event in {page.EVENTS}]
+totals.append(f"counter files {{files}}")
+counters = [f"files batch 32 count 0 locals 0 {{files}} sum {{files}}"]
+if above < len(lines):
+    for n, report in enumerate([zoneinfo, totals, counters]):
+        print(f"line {{above + n + 1}}: {{lines[above + n]}}", *report, sep="\\n")
+    for n, event in enumerate({page.EVENTS}, above + 4):
+        print(f"line {{n}}: events {{faults if event == 'pgfault' and not dead else 0}}")
+print("done accepted 6 refused 1")
 sys.exit(3)
 """
 
@@ -68,27 +69,98 @@ class PageTest(ToolTest):
     def test_help(self):
         self.tells_help()
 
-    def test_data_of_a_page(self):
-        status, output, errors = self.call(self.file("small.vmtrace", HEADER + BODY), "--program", self.program())
+    def data(self, *words, body=BODY, program=PROGRAM):
+        """What a page has for its script."""
+        trace = self.file("small.vmtrace", HEADER + body)
+        status, output, errors = self.call(trace, "--program", self.program(program), *words)
         self.assertEqual((status, errors), (0, ""))
-        data = json.loads(output.split('id="data">')[1].split("</script>")[0])
-        self.assertEqual(data["title"], "small.vmtrace")
-        self.assertEqual(data["done"], "done accepted 4 refused 1")
+        return json.loads(output.split('id="data">')[1].split("</script>")[0])
+
+    def test_lines_and_machine(self):
+        data = self.data()
+        self.assertEqual((data["title"], data["done"]), ("small.vmtrace", "done accepted 6 refused 1"))
+        self.assertEqual((data["step"], data["begin"]), (1, 6))
+        self.assertEqual(data["machine"], {
+            "cpus": 2, "zones": [{"name": "node 0, zone Normal", "managed": 262144, "threshold": 20}],
+            "percpu": [{"name": "files", "batch": 32}]})
         self.assertEqual(data["rows"], ["between phases", "control lane", "CPU 0", "CPU 1", "CPU 9"])
         self.assertEqual(data["lines"], [
-            [6, "CPU 1", "c1 mod 0 Normal nr_free_pages 3", ""],
-            [7, "between phases", "offline 1", ""],
-            [8, "CPU 0", "c0 mod 0 Normal nr_free_pages -5", ""],
-            [10, "CPU 9", "c9 inc 0 Normal nr_free_pages", "refused: UnknownLane"],
-            [11, "control lane", "k val 0 Normal nr_free_pages", "value 1000"],
+            [7, "CPU 1", "c1 mod 0 Normal nr_free_pages 3", ""],
+            [8, "CPU 1", "c1 ev pgfault 4", ""],
+            [9, "CPU 1", "c1 cnt files 9", ""],
+            [10, "between phases", "offline 1", ""],
+            [11, "CPU 0", "c0 mod 0 Normal nr_free_pages -5", ""],
+            [13, "CPU 9", "c9 inc 0 Normal nr_free_pages", "refused: UnknownLane"],
+            [14, "control lane", "k val 0 Normal nr_free_pages", "value 1000"],
         ])
-        self.assertEqual(data["zones"], [{
-            "name": "Node 0, zone Normal",
-            "marks": [["min", 100], ["low", 125], ["high", 150]],
-            # the line, plain value, snapshot (without the dead CPU), true total, how far off it can be, drift mark
-            "rows": [[5, 1000, 1000, 1000, 0, 190], [6, 1000, 1003, 1003, 20, 190], [7, 1000, 1000, 1003, 20, 190],
-                     [8, 1000, 995, 998, 40, 190], [10, 1000, 995, 998, 40, 190], [11, 1000, 995, 998, 40, 190]],
-        }])
+
+    def test_figures(self):
+        free, files, faults = self.data()["figures"]
+        self.assertEqual(free, {
+            "name": "0 Normal nr_free_pages", "title": "nr_free_pages of node 0, zone Normal", "law": "pages",
+            "unit": "pages", "marks": [["min", 100], ["low", 125], ["high", 150]],
+            "worst": {"off": -3, "from": 7, "to": 10, "times": 1},
+            # the line, value, snapshot (without the dead CPU), true total, how far off, how far it can be, drift mark
+            "rows": [[6, 1000, 1000, 1000, 0, 0, 190], [7, 1000, 1003, 1003, -3, 20, 190],
+                     [10, 1000, 1000, 1003, -3, 20, 190], [11, 1000, 995, 998, 2, 40, 190]],
+        })
+        self.assertEqual(files, {
+            "name": "counter files", "title": "percpu counter files", "law": "percpu", "unit": "", "marks": [],
+            "worst": {"off": -9, "from": 9, "to": 14, "times": 1},
+            # a batch of 32 for each of 2 CPUs, the dead one too
+            "rows": [[6, 0, None, 0, 0, 64, 0], [9, 0, None, 9, -9, 64, 0]],
+        })
+        self.assertEqual(faults, {
+            "name": "event pgfault", "title": "event pgfault", "law": "events", "unit": "", "marks": [],
+            "worst": {"off": -4, "from": 10, "to": 14, "times": 1},
+            # a sum over the online CPUs is right unless a CPU is dead, and no law says how far it is off then
+            "rows": [[6, 0, None, 0, 0, 0, 0], [8, 4, None, 4, 0, 0, 0], [10, 0, None, 4, -4, None, 0]],
+        })
+
+    def test_what_never_changes_is_apart(self):
+        names = [*OTHERS, *(f"event {event}" for event in page.EVENTS[:-1])]
+        self.assertEqual(self.data()["steady"], [[name, 0] for name in names])
+
+    def test_the_first_figure(self):
+        for name in ("event pgfault", "counter files", "0 node nr_dirty"):
+            data = self.data("--counter", name)
+            self.assertEqual(data["figures"][0]["name"], name)
+            self.assertEqual(len(data["figures"]) + len(data["steady"]), 8 + 8 + 1 + 8)
+        self.assertEqual(data["figures"][0]["rows"], [[6, 0, 0, 0, 0, 0, 0]])
+        idle = self.data(body="")
+        self.assertEqual([figure["name"] for figure in idle["figures"]], ["0 Normal nr_free_pages"])
+
+    def test_the_worst_moment(self):
+        cases = [
+            ([0, 5, 5, 0], {"off": 5, "from": 2, "to": 3, "times": 1}),
+            ([0, 5, -7, -7, 3, -7], {"off": -7, "from": 3, "to": 4, "times": 2}),
+            ([0, -4, 4], {"off": -4, "from": 2, "to": 2, "times": 2}),
+            ([0, 0, 0], {"off": 0, "from": 2, "to": 2, "times": 0}),
+            ([0], {"off": 0, "from": 1, "to": 1, "times": 0}),
+        ]
+        for offs, wanted in cases:
+            with self.subTest(offs):
+                moments = [page.Moment(line, off, None, 0, 9) for line, off in enumerate(offs, 1)]
+                self.assertEqual(page.Figure("", "", "pages", "", moments).worst(), wanted)
+        bounded = [page.Moment(line, 0, None, 0, bound) for line, bound in enumerate([0, 20, 40, 40], 1)]
+        self.assertEqual(page.Figure("", "", "pages", "", bounded).worst()["from"], 3)
+
+    def test_the_order_of_figures(self):
+        figures = [page.Figure(name, name, law, "", [page.Moment(1, 0, None, 0), page.Moment(2, value, None, total)])
+                   for name, law, value, total in (
+                       ("still", "pages", 0, 0), ("right", "pages", 4, 4), ("near", "pages", 1, 0),
+                       ("far", "pages", 0, 2), ("faults", "events", 0, 900), ("files", "percpu", 0, 90))]
+        names = [figure.name for figure in page.in_order(figures, None)]
+        self.assertEqual(names, ["far", "near", "files", "faults", "right", "still"])
+        self.assertEqual(page.in_order(figures, "faults")[0].name, "faults")
+
+    def test_large_numbers_lose_nothing(self):
+        self.assertEqual([page.exact(number) for number in (None, 2**53, -2**53 - 1)], [None, 2**53, str(-2**53 - 1)])
+
+    def test_units(self):
+        header = vmtrace.Header(in_bytes={"slab"})
+        units = {"nr_mlock": "pages", "slab": "pages", "area10": "free blocks", "area11": "", "own": ""}
+        self.assertEqual({item: page.unit_of(header, item) for item in units}, units)
 
     def test_a_page_asks_nothing_of_others(self):
         with open(page.TEMPLATE, encoding="ascii") as template:
@@ -98,9 +170,10 @@ class PageTest(ToolTest):
 
     def test_places(self):
         header = vmtrace.Header(lines=1)
-        for told, readings, wanted in ((0, 0, [1]), (3, 3, [1, 2, 3, 4]), (500, 500, None), (1_201, 401, None)):
-            places = page.places_of(["go", *["sync"] * told], header)
-            self.assertEqual(len(places), readings + 1 if readings else 1)
+        cases = ((0, 0, 1, [1]), (3, 3, 1, [1, 2, 3, 4]), (2_000, 2_000, 1, None), (4_801, 1_601, 3, None))
+        for told, readings, wanted_step, wanted in cases:
+            places, step = page.places_of(["go", *["sync"] * told], header)
+            self.assertEqual((len(places), step), (readings + 1, wanted_step))
             self.assertEqual(places[-1], told + 1)
             self.assertEqual(places, sorted(set(places)))
             if wanted:
@@ -108,8 +181,8 @@ class PageTest(ToolTest):
 
     def test_words_of_a_line_stand_as_text(self):
         body = "c0 </script><b>\n"
-        program = PROGRAM.replace("line 10: refused: UnknownLane", "line 6: refused: UnknownVerb").replace(
-            "len(own) - 9", "len(own) - 5").replace("> 5", "> 9")
+        program = PROGRAM.replace("line 13: refused: UnknownLane", "line 7: refused: Malformed").replace(
+            "above - 12", "above - 6").replace("above > 6", "above > 9")
         status, output, _ = self.call(self.file("trace", HEADER + body), "--program", self.program(program))
         self.assertEqual(status, 0)
         self.assertNotIn("</script><b>", output)
@@ -121,7 +194,8 @@ class PageTest(ToolTest):
 
     def test_refusals(self):
         trace = self.file("trace", HEADER + BODY)
-        self.fails("zones have no item 'nr_dirty'", trace, "--item", "nr_dirty")
+        self.fails("has no counter '0 Normal nr_dirty'; the names are those of `report totals`", trace, "--counter",
+                   "0 Normal nr_dirty", "--program", self.program())
         self.fails("missing: No such file or directory; ./vozhkell builds the proved program, and --program names "
                    "another", trace, "--program", "missing")
         self.fails("ended with status 2: line 1: NotVersion", trace, "--program",
@@ -133,8 +207,12 @@ class PageTest(ToolTest):
             ("it prints 'replay' last, " + expected, '#!/bin/sh\necho "$@"\n'),
             ("it prints '\\xff\\x1b' last, " + expected, "#!/bin/sh\nprintf '\\377\\033\\n'\n"),
             (others, "#!/bin/sh\necho done accepted 1 refused 0\n"),
-            (others, PROGRAM.replace("  nr_free_pages 1000\n", "")),
-            (others, PROGRAM.replace("pgfault 0", "pgfault x")),
+            (others, PROGRAM.replace('"  nr_free_pages 1000"', '""')),
+            (others, PROGRAM.replace("counter files {files}", "counter files x")),
+            (others, PROGRAM.replace("counter files {files}", "counter inodes 0")),
+            (others, PROGRAM.replace("locals 0 {files}", "locals")),
+            (others, PROGRAM.replace(": events", ": sum")),
+            (others, PROGRAM.replace("above + 4", "above + 5")),
         ]
         for message, program in programs:
             with self.subTest(program):
@@ -146,5 +224,12 @@ class PageTest(ToolTest):
         self.fails("no header of a trace", self.file("none", "vmtrace 1\n"), "--program", self.program())
         self.fails("and a page shows at most 5,000", self.file("long", HEADER + "sync\n" * 5_001))
         self.fails("page: standard input:1: 'cpus 0' is no header line", "-", stdin="cpus 0\n")
-        self.fails("what the program printed of 0 Normal nr_free_pages is wrong", trace, "--program",
-                   self.program(PROGRAM.replace("1000 + sum(held)", "1050")))
+        wrong = [("6", "0 Normal nr_free_pages", "1000 + sum(free)", "1050"),
+                 ("7", "0 Normal nr_free_pages", "3 if above", "21 if above"),
+                 ("8", "event pgfault", "{faults if event == 'pgfault' and", "{0 if"),
+                 ("9", "counter files", "9 if above > 8", "65 if above > 8")]
+        for line, counter, before, after in wrong:
+            with self.subTest(after):
+                self.assertIn(before, PROGRAM)
+                self.fails(f"trace:{line}: what the program printed of {counter} is wrong", trace, "--program",
+                           self.program(PROGRAM.replace(before, after)))
