@@ -1,0 +1,2 @@
+pub mod WrittenCells
+pub mod Counts
