@@ -1,0 +1,4 @@
+pub mod QuietRoles
+pub mod HeldPasses
+pub mod HeldEvents
+mod Judged
