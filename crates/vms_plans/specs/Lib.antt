@@ -1,0 +1,9 @@
+pub mod Plans
+pub mod ChangePlans
+pub mod FoldPlans
+pub mod LookPlans
+pub mod RatingPlans
+pub mod TurnPlans
+pub mod PagePlans
+pub mod OpenPlans
+pub mod Common
