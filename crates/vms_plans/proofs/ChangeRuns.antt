@@ -1,8 +1,8 @@
 -- The steps of a change are those that run through its plan.
 use Rattle.std.proofs.Common.{◌≡◌, ℕ, suc, zero, ℤ, pos, negsuc, List, [], ◌∷◌, ◌++◌, refl, sym, ap, subst, ◌∙◌}
 use Rattle.vms_calls.specs.Common.{CounterId, CpuId, Diffs, GroupId, Mode, PlaceId, Shape, group_of, place_of, Step}
-use Rattle.vms_calls.specs.Common.{LoadT, LoadD, Put, Miss, entry, carried_by, Carries, Exchanges}
-use Rattle.vms_calls.specs.Common.{IsChange, amount, missed, nothing, won}
+use Rattle.vms_calls.specs.Common.{LoadT, LoadD, Put, Miss, entry, carried_by, Carries, Exchanges, IsChange, amount}
+use Rattle.vms_calls.specs.Common.{missed, nothing, won}
 use Rattle.vms_plans.specs.Common.{Runs, ends, makes_all, carrying, change_plan, found_plan, won_plan}
 use Rattle.vms_plans.proofs.PlanLaws.{runs-makes_only, makes_only}
 

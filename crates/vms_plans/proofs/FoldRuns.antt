@@ -6,8 +6,8 @@ use Rattle.std.specs.Prelude.{All}
 use Rattle.vms_calls.specs.Common.{Diffs, CpuId, GroupId, PlaceId, Shape, place_count, item_count, counter_at, group_of}
 use Rattle.vms_calls.specs.Common.{first_of_group, Step, LoadT, SetA, Take, in_turn, FoundPlace, HasGroups, IsFold}
 use Rattle.vms_calls.specs.Common.{acknowledges, group_steps, lists_of, place_steps, system_steps, to_place}
-use Rattle.vms_plans.specs.Common.{Runs, ends, makes, makes_all, groups_plan, place_groups}
-use Rattle.vms_plans.specs.Common.{place_plan, places_plan, fold_plan}
+use Rattle.vms_plans.specs.Common.{Runs, ends, makes, makes_all, groups_plan, place_groups, place_plan, places_plan}
+use Rattle.vms_plans.specs.Common.{fold_plan}
 use Rattle.vms_plans.proofs.PlanLaws.{runs-and_then, splits-and_then, runs-makes_all, splits-makes_all, runs-makes_only}
 use Rattle.vms_plans.proofs.PlanLaws.{makes_only, ends_only}
 

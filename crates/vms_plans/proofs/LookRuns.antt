@@ -8,8 +8,8 @@ use Rattle.vms_calls.specs.Common.{LoadM, LoadO, entry, in_turn, Look, Frees, lo
 use Rattle.vms_calls.specs.Common.{is_doubtful, free_pages, online, other, IsPlaceValue, IsSnapshot, IsSystemValue}
 use Rattle.vms_calls.specs.Common.{IsWatermarkTest}
 use Rattle.vms_calls.specs.declared.answers.Verdict.{Verdict}
-use Rattle.vms_plans.specs.Common.{Runs, value_plan, system_plan, looks_plan, snapshot_plan, tested}
-use Rattle.vms_plans.specs.Common.{frees_plan, test_plan}
+use Rattle.vms_plans.specs.Common.{Runs, value_plan, system_plan, looks_plan, snapshot_plan, tested, frees_plan}
+use Rattle.vms_plans.specs.Common.{test_plan}
 use Rattle.vms_plans.proofs.PlanLaws.{runs-answering, told-answering}
 
 pub value-runs : (k : CounterId) (steps : List Step) (answer : ℕ) → IsPlaceValue k steps answer

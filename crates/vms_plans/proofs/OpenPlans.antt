@@ -8,9 +8,9 @@ use Rattle.vms_calls.specs.Common.{Absent, CpuState, High, Area, areas_from, are
 use Rattle.vms_calls.specs.Common.{counter_at, first_of_group, place_of, group_of, item_count, place_count, MarkRead}
 use Rattle.vms_calls.specs.Common.{State, Facts, Step, LoadA, LoadD, LoadG, LoadM, LoadO, LoadS, LoadT, Miss, Put, SetA}
 use Rattle.vms_calls.specs.Common.{SetO, Take, History, carried_by, eight_zeros, entry, Choice, ByNormal, ByPressure}
-use Rattle.vms_calls.specs.Common.{acknowledges, blocks_at, facts_of, free_pages, has_room, in_turn}
-use Rattle.vms_calls.specs.Common.{is_doubtful, node_number, numbers_below, rating_steps, system_steps, to_place}
-use Rattle.vms_calls.specs.Common.{zones_on, zones_up_to}
+use Rattle.vms_calls.specs.Common.{acknowledges, blocks_at, facts_of, free_pages, has_room, in_turn, is_doubtful}
+use Rattle.vms_calls.specs.Common.{node_number, numbers_below, rating_steps, system_steps, to_place, zones_on}
+use Rattle.vms_calls.specs.Common.{zones_up_to}
 use Rattle.vms_core.proofs.Common.{get_or-copies}
 use Rattle.vms_calls.specs.LookReadings.{differential_told, mark_told, online_told, value_told}
 use Rattle.vms_calls.specs.PageCalls.{owns_cpu}
@@ -31,8 +31,8 @@ use Rattle.vms_plans.specs.Common.{exchanged_plan, found_plan, loaded_plan, won_
 use Rattle.vms_plans.specs.Common.{groups_plan, place_groups, place_plan, places_plan, taken_plan, state_told}
 use Rattle.vms_plans.specs.Common.{states_plan, mark_plan, rates_plan, marked_plan, visit_plan, visits_plan, node_plan}
 use Rattle.vms_plans.specs.Common.{node_steps, refresh_plan, burial_plan, balance_plan, blocks_plan, further_plan}
-use Rattle.vms_plans.specs.Common.{order_plan, ordered, settles_plan, turn_plan, zones_plan, IsOpen}
-use Rattle.vms_plans.specs.Common.{PlansAreOpen, SomeStepFits, answering}
+use Rattle.vms_plans.specs.Common.{order_plan, ordered, settles_plan, turn_plan, zones_plan, IsOpen, PlansAreOpen}
+use Rattle.vms_plans.specs.Common.{SomeStepFits, answering}
 
 open-and_then : {A B : Type 0} (plan : Plan A) (more : A → Plan B) → IsOpen plan → ((a : A) → IsOpen (more a))
     → IsOpen (and_then plan more)

@@ -8,8 +8,8 @@ use Rattle.vms_calls.specs.declared.page_calls.PageCall.{PageCall}
 use Rattle.vms_calls.specs.declared.page_calls.PageCall.TheVariants.{Change, Fold, Test, Value, Snapshot, System}
 use Rattle.vms_calls.specs.declared.page_calls.PageCall.TheVariants.{SetPressure, SetNormal, Bury, Turn}
 use Rattle.vms_calls.specs.PageCalls.{IsPageCall, owns_cpu}
-use Rattle.vms_plans.specs.Common.{change_plan, fold_plan, snapshot_plan, system_plan, test_plan, value_plan}
-use Rattle.vms_plans.specs.Common.{Runs, burial_plan, node_plan, turn_plan, PlansAreCalls, plan_of}
+use Rattle.vms_plans.specs.Common.{change_plan, fold_plan, snapshot_plan, system_plan, test_plan, value_plan, Runs}
+use Rattle.vms_plans.specs.Common.{burial_plan, node_plan, turn_plan, PlansAreCalls, plan_of}
 use Rattle.vms_plans.proofs.PlanLaws.{runs-answering, told-answering}
 use Rattle.vms_plans.proofs.LookRuns.{snapshot-runs, snapshot-told, system-runs, system-told, test-runs, test-told}
 use Rattle.vms_plans.proofs.LookRuns.{value-runs, value-told}

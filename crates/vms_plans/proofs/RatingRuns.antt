@@ -1,6 +1,6 @@
 -- The steps of the calls that set thresholds and marks, and of a burial, are those that run through their plans.
-use Rattle.std.proofs.Common.{◌≡◌, ℕ, suc, zero, nat_eq, Bool, true, false, List, [], ◌∷◌, ◌++◌, length, refl, sym}
-use Rattle.std.proofs.Common.{ap, subst, ◌∙◌, append-nil, append_assoc, true≢false, Option}
+use Rattle.std.proofs.Common.{◌≡◌, ℕ, suc, zero, nat_eq, Bool, true, false, List, [], ◌∷◌, ◌++◌, length, refl, sym, ap}
+use Rattle.std.proofs.Common.{subst, ◌∙◌, append-nil, append_assoc, true≢false, Option}
 use Rattle.std.proofs.lemmas.Bool.{eqb-true, ne_eqb}
 use Rattle.vms_calls.specs.Common.{CpuId, CpuState, PlaceId, ZoneSize, after, online_from, size_at, MarkRead, Facts}
 use Rattle.vms_calls.specs.Common.{Step, LoadA, LoadM, LoadO, SetO, History, in_turn, Choice, ByNormal, Buries, Rates}

@@ -1,7 +1,7 @@
 -- The plans of the calls that set thresholds and marks, and of a burial, from the history in which a call begins.
 use Rattle.std.specs.Prelude.{ℕ, zero, suc, ◌+◌, nat_eq, false, List, [], ◌∷◌, ◌++◌, length}
-use Rattle.vms_calls.specs.Common.{CpuId, PlaceId, CpuState, Absent, ZoneSize, after, size_at, online_from}
-use Rattle.vms_calls.specs.Common.{MarkRead, Facts, Step, LoadO, SetO, History, in_turn, Choice, ByNormal, rating_steps}
+use Rattle.vms_calls.specs.Common.{CpuId, PlaceId, CpuState, Absent, ZoneSize, after, size_at, online_from, MarkRead}
+use Rattle.vms_calls.specs.Common.{Facts, Step, LoadO, SetO, History, in_turn, Choice, ByNormal, rating_steps}
 use Rattle.vms_calls.specs.Common.{threshold_steps, node_number, numbers_below, zones_on, largest_on}
 use Rattle.vms_calls.specs.LookReadings.{mark_told}
 use Rattle.vms_plans.specs.declared.due_steps.DueStep.TheVariants.{LoadsMark, LoadsState, LoadsAcknowledged}
