@@ -6,9 +6,9 @@ use Rattle.std.proofs.Math.ListN.{set, length-set, replicate}
 use Rattle.std.proofs.lemmas.Bool.{eqb-false, eq-eqb, ne_eqb}
 use Rattle.std.proofs.lemmas.Int.{ints}
 use Rattle.std.proofs.lemmas.List.{length-replicate}
-use Rattle.vms_base.specs.Places.{cell}
-use Rattle.vms_history.specs.Common.{count_below}
-use Rattle.vms_history.proofs.Common.{count_below-most, count_below-same, get_or-set, pos-count_below, sum_below-changed}
+use Rattle.vms_history.specs.Common.{cell, count_below}
+use Rattle.vms_history.proofs.Common.{count_below-most, count_below-same, get_or-set, pos-count_below}
+use Rattle.vms_history.proofs.Common.{sum_below-changed}
 use Rattle.vms_cells.specs.Cells.{Cells, HasCells, at, filled, with_cell}
 use Rattle.vms_cells.specs.Tallies.{AreCounted, IsEmptyRow, count_of, counted}
 use Rattle.vms_cells.proofs.WrittenCells.{at-with_cell, filled-get_or}

@@ -1,10 +1,10 @@
 -- For other crates too: what reads of a table find after a write.
-use Rattle.std.proofs.Common.{◌≡◌, ℕ, ◌*◌, ◌<◌, ◌&&◌, refl, length, if◌then◌else◌, nat_eq, ◌∙◌}
+use Rattle.std.proofs.Common.{◌≡◌, ℕ, ◌*◌, ◌<◌, ◌&&◌, refl, length, if◌then◌else◌, nat_eq, ◌∙◌, get_or, inl, inr}
+use Rattle.std.proofs.Common.{replicate}
 use Rattle.std.proofs.Math.ListN.{length-set}
-use Rattle.std.proofs.Common.{get_or, inl, inr, replicate}
 use Rattle.std.proofs.lemmas.Bool.{cases_lt}
 use Rattle.std.proofs.lemmas.List.{get_or-replicate, get_or_past, length-replicate}
-use Rattle.vms_base.specs.Places.{cell}
+use Rattle.vms_history.specs.Common.{cell}
 use Rattle.vms_base.proofs.Common.{cell-lt}
 use Rattle.vms_history.proofs.Common.{get_or-set_cell}
 use Rattle.vms_cells.specs.Cells.{Cells, HasCells, at, filled, with_cell}

@@ -1,6 +1,6 @@
 -- A table of cells: where they stand, and what a write makes of it.
 use Rattle.std.specs.Prelude.{◌≡◌, ℕ, ◌*◌, ◌<◌, ◌^◌, List, length, replicate, slice_index_or, slice_set}
-use Rattle.vms_base.specs.Places.{cell}
+use Rattle.vms_history.specs.Common.{cell}
 
 -- so many rows of so many columns, the cells of row 0 first
 pub record Cells (X : Type 0) : Type 0 where

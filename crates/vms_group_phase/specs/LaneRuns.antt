@@ -1,6 +1,5 @@
 -- What a lane's pass makes of its lines while others act.
-use Rattle.std.specs.Prelude.{◌≡◌, ℕ, ◌+◌, ◌<◌, ◌≤◌, List, All, length, slice_index, slice_index_or, Result}
-use Rattle.std.specs.Prelude.{IfOk, ℤ}
+use Rattle.std.specs.Prelude.{◌≡◌, ℕ, ◌+◌, ◌<◌, ◌≤◌, List, All, length, slice_index, slice_index_or, Result, IfOk, ℤ}
 use Rattle.vms_base.specs.declared.failures.Memory.{Memory}
 use Rattle.vms_history.specs.Common.{most_volume}
 use Rattle.vms_group_core.specs.declared.call_values.GroupAnswer.{GroupAnswer}

@@ -3,10 +3,9 @@ use Rattle.std.proofs.Common.{◌≡◌, ◌≢◌, ℕ, zero, suc, cond, ◌==�
 use Rattle.std.proofs.Common.{Option, Some, None, refl, sym, ap, ◌∙◌, subst, arith, if◌then◌else◌, nat_eq, eqb-true}
 use Rattle.std.proofs.Common.{eq-eqb, ne_eqb}
 use Rattle.std.proofs.lemmas.Bool.{eqb-false}
-use Rattle.vms_base.specs.declared.ids.CpuId.{CpuId}
-use Rattle.vms_history.specs.declared.events.Event.{Event}
-use Rattle.vms_history.specs.Common.{Machine, Acts, IsFree, IsLegal, Role, Begins, begun_in, lives_in}
+use Rattle.vms_history.specs.Common.{CpuId, Machine, Acts, IsFree, IsLegal, Role, Begins, begun_in, lives_in}
 use Rattle.vms_history.specs.Common.{lives_after, owner_after, owner_in}
+use Rattle.vms_history.specs.declared.events.Event.{Event}
 use Rattle.vms_history.proofs.Common.{live_is_given, lives_in-main, lives_in-others, owner_in-main, owner_in-others}
 use Rattle.vms_registers.specs.Slots.{BeginsIn, EndsIn, HoldPasses, owner_of, slot_of}
 

@@ -1,14 +1,12 @@
 -- What registers show of the passes of a history, and that they show it of the next one.
-use Rattle.std.proofs.Common.{◌≡◌, ◌≢◌, ℕ, ◌+◌, ◌<◌, Bool, true, false, true≢false, List, [], ◌∷◌, length, refl}
-use Rattle.std.proofs.Common.{Option, Some, sym, ap, ◌∙◌, subst, arith, get_or, replicate}
-use Rattle.std.proofs.Common.{inl, inr, ◌^◌, MatchBool}
+use Rattle.std.proofs.Common.{◌≡◌, ◌≢◌, ℕ, ◌+◌, ◌<◌, Bool, true, false, true≢false, List, [], ◌∷◌, length, refl, Option}
+use Rattle.std.proofs.Common.{Some, sym, ap, ◌∙◌, subst, arith, get_or, replicate, inl, inr, ◌^◌, MatchBool}
 use Rattle.std.proofs.Math.ListN.{set, length-set}
 use Rattle.std.proofs.lemmas.Bool.{cases_lt}
 use Rattle.std.proofs.lemmas.List.{get_or-replicate, get_or_past, length-replicate}
-use Rattle.vms_base.specs.declared.ids.CpuId.{CpuId}
+use Rattle.vms_history.specs.Common.{CpuId, Machine, Acts, IsLegal, Role, Works, Begins, Ends, begun_after, begun_in}
+use Rattle.vms_history.specs.Common.{lives_in, own}
 use Rattle.vms_history.specs.declared.events.Event.{Event}
-use Rattle.vms_history.specs.Common.{Machine, Acts, IsLegal, Role, Works, Begins, Ends, begun_after, begun_in, lives_in}
-use Rattle.vms_history.specs.Common.{own}
 use Rattle.vms_history.proofs.Common.{get_or-set, live_is_given}
 use Rattle.vms_history.proofs.PassLaws.{begun_in-main, begun_in-others}
 use Rattle.vms_registers.specs.Shows.{Parts, Shows, held_by}

@@ -1,7 +1,6 @@
 -- For other crates too: a step that begins or ends a pass is none that works.
 use Rattle.std.proofs.Common.{◌≡◌, ◌≢◌, ℕ, Option}
-use Rattle.vms_base.specs.declared.ids.CpuId.{CpuId}
-use Rattle.vms_history.specs.Common.{Role, Works, Begins, Ends}
+use Rattle.vms_history.specs.Common.{CpuId, Role, Works, Begins, Ends}
 
 pub begins-differs : (t : Role) (q : ℕ) (who : Option CpuId) → t ≡ Begins q who → t ≢ Works
 begins-differs Works q who is same = cc

@@ -1,8 +1,8 @@
 -- Which pass stands in which slot. There is a slot for each CPU, and after them one for the control pass.
-use Rattle.std.specs.Prelude.{◌≡◌, ◌≢◌, ℕ, ◌+◌, ◌^◌, ◌<◌, ◌≤◌, nat_eq, true, List, [], ◌∷◌, length, if◌then◌else◌, Option, Some, None}
-use Rattle.vms_base.specs.declared.ids.CpuId.{CpuId}
+use Rattle.std.specs.Prelude.{◌≡◌, ◌≢◌, ℕ, ◌+◌, ◌^◌, ◌<◌, ◌≤◌, nat_eq, true, List, [], ◌∷◌, length, if◌then◌else◌}
+use Rattle.std.specs.Prelude.{Option, Some, None}
+use Rattle.vms_history.specs.Common.{CpuId, Machine, IsLegal, Works, Begins, Ends, own, lives_in, owner_in, state_after}
 use Rattle.vms_history.specs.declared.events.Event.{Event}
-use Rattle.vms_history.specs.Common.{Machine, IsLegal, Works, Begins, Ends, own, lives_in, owner_in, state_after}
 
 -- the slot of a pass that owns a CPU, or of the control pass
 abbrev pub slot_of : ℕ → Option CpuId → ℕ

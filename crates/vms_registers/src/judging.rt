@@ -1,5 +1,5 @@
 ghost use Rattle.std.specs.Prelude.{IfOk};
-ghost use Rattle.vms_judge.specs.Verdicts.{IsVerdict};
+ghost use Rattle.vms_judge.specs.Common.{IsVerdict};
 
 use crate::{Registers, TableRegisters};
 use std::alloc::Global;

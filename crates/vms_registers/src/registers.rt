@@ -24,7 +24,8 @@ impl<T: TableRegisters> Registers<T> {
     ghost use Rattle.std.specs.Prelude.{◌≡◌, ◌≢◌, ◌↔◌, ℕ, suc, true, false, List, [], ◌∷◌, IsTrue, IfOk, MatchBool};
     ghost use Rattle.std.specs.Prelude.{MatchOption, ◌+◌, ◌^◌, ◌<◌, length};
     ghost use Rattle.vms_history.specs.declared.events.Event.{Event};
-    ghost use Rattle.vms_history.specs.Common.{IsFree, IsLegal, Works, Begins, Ends, begun_in, lives_in, own, state_after};
+    ghost use Rattle.vms_history.specs.Common.{IsFree, IsLegal, Works, Begins, Ends, begun_in, lives_in, own};
+    ghost use Rattle.vms_history.specs.Common.{state_after};
     ghost use Rattle.vms_registers.specs.Shows.{Shows};
 
     /// The registers of a history without events, if one may begin with these facts.

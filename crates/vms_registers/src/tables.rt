@@ -1,7 +1,6 @@
 ghost use Rattle.std.specs.Prelude.{◌≡◌, ◌<◌, ◌≤◌, ◌↔◌, ℕ, List, [], ◌∷◌, IsTrue, IfOk, MatchOption, Some};
-ghost use Rattle.vms_base.specs.declared.ids.CpuId.{CpuId};
+ghost use Rattle.vms_history.specs.Common.{CpuId, own, state_after};
 ghost use Rattle.vms_history.specs.declared.events.Event.{Event};
-ghost use Rattle.vms_history.specs.Common.{own, state_after};
 ghost use Rattle.vms_registers.specs.Slots.{BeginsIn, EndsIn, MayWork, StandsIn, owner_of};
 
 use std::alloc::Global;

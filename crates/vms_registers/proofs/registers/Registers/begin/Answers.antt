@@ -1,7 +1,6 @@
 -- The slot of a pass that may begin is free, and holds it then.
 use Rattle.std.proofs.Common.{◌≡◌, ◌<◌, Some, subst}
-use Rattle.vms_base.specs.declared.ids.CpuId.{CpuId}
-use Rattle.vms_history.specs.Common.{Acts}
+use Rattle.vms_history.specs.Common.{CpuId, Acts}
 use Rattle.vms_history.proofs.Common.{base_can_begin}
 use Rattle.vms_registers.specs.Shows.{held_by}
 use Rattle.vms_registers.specs.Slots.{slot_of}

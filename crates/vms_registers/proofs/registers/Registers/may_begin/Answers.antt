@@ -1,6 +1,6 @@
 -- A slot is free exactly where it holds no pass.
 use Rattle.std.proofs.Common.{◌≡◌, ◌<◌, suc, Some, sym, ap, ◌∙◌, subst, eq-eqb, eqb-true, true≢false}
-use Rattle.vms_base.specs.declared.ids.CpuId.{CpuId}
+use Rattle.vms_history.specs.Common.{CpuId}
 use Rattle.vms_history.proofs.Common.{base_can_begin}
 use Rattle.vms_registers.specs.Shows.{held_by}
 use Rattle.vms_registers.specs.Slots.{slot_of}
