@@ -38,7 +38,7 @@ struct Progress {
 
 /// How a thread's tests came out: how many answered yes and no by the value alone, and how many answers of any kind
 /// were further from the truth than they may be.
-#[derive(Clone, Copy, Debug, PartialEq, Eq)]
+#[derive(Clone, Copy)]
 struct Tally {
     yes: u32,
     no: u32,
@@ -144,7 +144,7 @@ fn tests_beside_changes<R: Threads + Sync>(
 fn answers_are_near_the_truth(rt: HostRuntime) -> Result<(), Fail> {
     let tally = tests_beside_changes(&rt, rt.alloc(), 20_000, 10_000)?;
     assert_eq!(rt; tally.far, 0, "answers too far from the truth");
-    assert!(rt; tally.no >= 4_000, "few answers no: {tally:?}");
-    assert!(rt; tally.yes >= 1, "no answer yes: {tally:?}");
+    assert!(rt; tally.no >= 4_000, "{} answers no", tally.no);
+    assert!(rt; tally.yes >= 1, "no answer yes");
     Ok(())
 }
