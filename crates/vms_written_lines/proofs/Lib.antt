@@ -1,0 +1,5 @@
+mod WordsRead
+mod EightRead
+pub mod NarrowSteps
+mod LineTexts
+pub mod EventsRead
