@@ -1,0 +1,6 @@
+pub mod Goes
+pub mod StepReadings
+pub mod ChangeGoes
+pub mod SnapshotGoes
+pub mod TestGoes
+pub mod LoadGoes

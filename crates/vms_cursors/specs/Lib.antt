@@ -1,0 +1,6 @@
+pub mod Cursors
+pub mod StepReadings
+pub mod Changes
+pub mod Snapshots
+pub mod Tests
+pub mod Loads

@@ -1,0 +1,46 @@
+-- What a step tells where it is of one kind and acts on one place: none where it is another.
+use Rattle.std.specs.Prelude.{ℕ, nat_eq, ◌&&◌, ℤ, Option, Some, None, if◌then◌else◌}
+use Rattle.vms_calls.specs.Common.{AddG, AddS, CpuState, Diffs, LoadD, LoadG, LoadM, LoadO, LoadS, LoadT, MarkRead}
+use Rattle.vms_calls.specs.Common.{Miss, Step}
+
+-- a load of the own threshold of place g, and of the list of a CPU in group j
+abbrev pub threshold_in : ℕ → Step → Option ℕ
+threshold_in g (LoadT f t a) = if nat_eq f.number g then Some t else None
+threshold_in g _ = None
+
+abbrev pub group_in : (c j : ℕ) → Step → Option Diffs
+group_in c j (LoadD d i w) = if nat_eq d.number c && nat_eq i.number j then Some w else None
+group_in c j _ = None
+
+-- a miss of group j
+abbrev pub missed_in : ℕ → Step → Option Diffs
+missed_in j (Miss i w) = if nat_eq i.number j then Some w else None
+missed_in j _ = None
+
+-- an addition to the global value of counter k, and to item i
+abbrev pub added_in : ℕ → Step → Option ℤ
+added_in k (AddG l a) = if nat_eq l.number k then Some a else None
+added_in k _ = None
+
+abbrev pub added_to_item_in : ℕ → Step → Option ℤ
+added_to_item_in i (AddS l a) = if nat_eq l.number i then Some a else None
+added_to_item_in i _ = None
+
+-- a load of the global value of counter k, and of the state of a CPU
+abbrev pub value_in : ℕ → Step → Option ℤ
+value_in k (LoadG l v) = if nat_eq l.number k then Some v else None
+value_in k _ = None
+
+abbrev pub state_in : ℕ → Step → Option CpuState
+state_in c (LoadO d x) = if nat_eq d.number c then Some x else None
+state_in c _ = None
+
+-- a load of the drift mark of zone g
+abbrev pub mark_in : ℕ → Step → Option MarkRead
+mark_in g (LoadM f m a) = if nat_eq f.number g then Some (record { mark = m; number = a }) else None
+mark_in g _ = None
+
+-- a load of the system-wide value of item i
+abbrev pub system_in : ℕ → Step → Option ℤ
+system_in i (LoadS l v) = if nat_eq l.number i then Some v else None
+system_in i _ = None
