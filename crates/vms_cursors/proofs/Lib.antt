@@ -4,3 +4,4 @@ pub mod ChangeGoes
 pub mod SnapshotGoes
 pub mod TestGoes
 pub mod LoadGoes
+pub mod CursorGoes

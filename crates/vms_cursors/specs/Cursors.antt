@@ -8,6 +8,10 @@ use Rattle.vms_plans.specs.Common.{Fits, Plan, Runs}
 abbrev pub GoesOn : {A : Type 0} → Plan A → Step → Plan A → Type 0
 GoesOn {A} plan step later = (steps : List Step) (answer : A) → Runs plan (step ∷ steps) answer ↔ Runs later steps answer
 
+-- the same runs through two plans
+abbrev pub IsSame : {A : Type 0} → Plan A → Plan A → Type 0
+IsSame {A} plan other = (steps : List Step) (answer : A) → Runs plan steps answer ↔ Runs other steps answer
+
 -- nothing runs through a plan with this step first
 abbrev pub Stops : {A : Type 0} → Plan A → Step → Type 0
 Stops {A} plan step = (steps : List Step) (answer : A) → Runs plan (step ∷ steps) answer → ⊥

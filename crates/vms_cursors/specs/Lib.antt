@@ -4,3 +4,4 @@ pub mod Changes
 pub mod Snapshots
 pub mod Tests
 pub mod Loads
+pub mod Calls

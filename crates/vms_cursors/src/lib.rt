@@ -5,6 +5,7 @@
 mod amounts;
 mod change_positions;
 mod changes;
+mod cursors;
 mod load_positions;
 mod looked;
 mod readings;
@@ -13,6 +14,7 @@ mod test_positions;
 
 pub use change_positions::ChangePosition;
 pub use changes::Change;
+pub use cursors::Cursor;
 pub use load_positions::LoadPosition;
 pub use looked::{Looked, OnlineCpu};
 pub use snapshot_positions::SnapshotPosition;

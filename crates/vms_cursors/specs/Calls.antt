@@ -1,0 +1,59 @@
+-- The plan of what is left of a call at each cursor.
+use Rattle.std.specs.Prelude.{◌≤◌, unsigned_abs, Bool, true, false, Option, None}
+use Rattle.vms_calls.specs.Common.{CpuId, Header, IsCounter, IsZone, Shape, most_volume}
+use Rattle.vms_calls.specs.declared.page_calls.PageAnswer.{PageAnswer}
+use Rattle.vms_calls.specs.declared.page_calls.PageAnswer.TheVariants as answer
+use Rattle.vms_calls.specs.declared.page_calls.PageCall.{PageCall}
+use Rattle.vms_calls.specs.declared.page_calls.PageCall.TheVariants as call
+use Rattle.vms_plans.specs.Common.{Plan, answering}
+use Rattle.vms_cursors.specs.Changes.{change_at}
+use Rattle.vms_cursors.specs.Loads.{load_answer, system_at, value_at}
+use Rattle.vms_cursors.specs.Snapshots.{snapshot_answer, snapshot_at}
+use Rattle.vms_cursors.specs.Tests.{test_answer, test_at}
+use Rattle.vms_cursors.specs.declared.cursors.Cursor.{Cursor}
+use Rattle.vms_cursors.specs.declared.cursors.Cursor.TheVariants.{Change, Value, System, Snapshot, Test}
+
+abbrev pub cursor_at : Header → Cursor → Plan PageAnswer
+cursor_at header (Change change at) = answering (λ made. answer.Done) (change_at header.layout change at)
+cursor_at header (Value k at) = answering (λ pages. answer.Value pages) (value_at k at)
+cursor_at header (System i at) = answering (λ pages. answer.System pages) (system_at i at)
+cursor_at header (Snapshot k at) = answering (λ pages. answer.Snapshot pages) (snapshot_at header.layout k at)
+cursor_at header (Test g mark most at) =
+    answering (λ verdict. answer.Tested verdict) (test_at header g mark most at)
+
+-- the answer where the call has ended
+abbrev pub answer_of : Header → Cursor → PageAnswer
+answer_of header (Change change at) = answer.Done
+answer_of header (Value k at) = answer.Value (load_answer at)
+answer_of header (System i at) = answer.System (load_answer at)
+answer_of header (Snapshot k at) = answer.Snapshot (snapshot_answer at)
+answer_of header (Test g mark most at) = answer.Tested (test_answer header g mark most at)
+
+-- the call is on a counter or a zone of the layout
+abbrev pub IsWithin : Shape → Cursor → Type 0
+IsWithin shape (Change change at) = IsCounter shape change.counter.number
+IsWithin shape (Snapshot k at) = IsCounter shape k.number
+IsWithin shape (Test g mark most at) = IsZone shape g.number
+IsWithin shape _ = Unit {0}
+
+-- a change is by no more than the volume of a CPU
+abbrev pub IsAffordable : PageCall → Type 0
+IsAffordable (call.Change k delta how) = unsigned_abs delta ≤ most_volume
+IsAffordable _ = Unit {0}
+
+-- a call is on a counter or a zone of the layout
+abbrev pub IsCallWithin : Shape → PageCall → Type 0
+IsCallWithin shape (call.Change k delta how) = IsCounter shape k.number
+IsCallWithin shape (call.Snapshot k) = IsCounter shape k.number
+IsCallWithin shape (call.Test g mark most) = IsZone shape g.number
+IsCallWithin shape _ = Unit {0}
+
+-- there is a cursor for a call by a pass that owns a CPU or none: for a change by an owner, and for looks and tests
+abbrev pub has_cursor : Option CpuId → PageCall → Bool
+has_cursor None (call.Change k delta how) = false
+has_cursor owner (call.Change k delta how) = true
+has_cursor owner (call.Value k) = true
+has_cursor owner (call.System i) = true
+has_cursor owner (call.Snapshot k) = true
+has_cursor owner (call.Test g mark most) = true
+has_cursor owner _ = false
