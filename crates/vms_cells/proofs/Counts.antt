@@ -41,7 +41,8 @@ count_below-each f (suc n) i below = by (nat_eq i n) refl (count_below-each f n 
 count_below-changed : (f g : ℕ → ℕ) (k n : ℕ) → k < n → ((i : ℕ) → i < n → i ≢ k → g i ≡ f i)
     → count_below g n + f k ≡ count_below f n + g k
 count_below-changed f g k n below same =
-    let changed = sum_below-changed (λ i. pos (f i)) (λ i. pos (g i)) k n below (λ i i_in other. ap pos (same i i_in other))
+    let changed = sum_below-changed (λ i. pos (f i)) (λ i. pos (g i)) k n below
+    (λ i i_in other. ap pos (same i i_in other))
     in
     omega (arith, ints, changed, pos-count_below f n, pos-count_below g n)
 

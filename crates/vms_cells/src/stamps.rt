@@ -2,7 +2,7 @@
 /// wrote, the next one doesn't find, and nothing has to be cleared.
 #[derive(Clone, Copy, Debug)]
 pub struct Stamped<T> {
-    pub writer: u32,
+    pub writer: u64,
     pub value: T,
 }
 
@@ -12,7 +12,7 @@ impl<T: Copy> Stamped<T> {
 
     /// The value, if it is of this writer.
     #[inline]
-    pub fn by(self, writer: u32) -> Option<T>
+    pub fn by(self, writer: u64) -> Option<T>
         ensures { result ≡ written_by writer self }
     {
         if self.writer == writer {

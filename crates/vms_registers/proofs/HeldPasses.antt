@@ -108,8 +108,10 @@ module _ {F K S : Type 0} (machine : Machine F K S) (facts : F) (cpus : ℕ) (h 
 
   pub HoldPasses-begins : HoldPasses machine cpus (record { caller = 0; step = step } ∷ h) next
   HoldPasses-begins = record {
-    lives = λ s some. rw (lives-begins (next s), begins.fills s) (live s (nat_eq slot s) refl (rw (begins.fills s) at some));
-    owner = λ s some. rw (owner-begins (next s), begins.fills s) (owned s (nat_eq slot s) refl (rw (begins.fills s) at some));
+    lives = λ s some.
+        rw (lives-begins (next s), begins.fills s) (live s (nat_eq slot s) refl (rw (begins.fills s) at some));
+    owner = λ s some.
+        rw (owner-begins (next s), begins.fills s) (owned s (nat_eq slot s) refl (rw (begins.fills s) at some));
     holds = λ r lives. rw (owner-begins r) (held_next r (q == r) refl (sym (lives-begins r) ∙ lives));
     within = λ r lives. rw (owner-begins r) (below r (q == r) (sym (lives-begins r) ∙ lives));
   }
@@ -167,8 +169,10 @@ module _ {F K S : Type 0} (machine : Machine F K S) (facts : F) (cpus : ℕ) (h 
 
   pub HoldPasses-ends : HoldPasses machine cpus (record { caller = 0; step = step } ∷ h) next
   HoldPasses-ends = record {
-    lives = λ s some. rw (lives-ends (next s), ends.leaves s) (live s (nat_eq slot s) refl (rw (ends.leaves s) at some));
-    owner = λ s some. rw (owner-ends (next s), ends.leaves s) (owned s (nat_eq slot s) refl (rw (ends.leaves s) at some));
+    lives = λ s some.
+        rw (lives-ends (next s), ends.leaves s) (live s (nat_eq slot s) refl (rw (ends.leaves s) at some));
+    owner = λ s some.
+        rw (owner-ends (next s), ends.leaves s) (owned s (nat_eq slot s) refl (rw (ends.leaves s) at some));
     holds = λ r lives. rw (owner-ends r) (held_next r (q == r) refl (sym (lives-ends r) ∙ lives));
     within = λ r lives. rw (owner-ends r) (below r (q == r) (sym (lives-ends r) ∙ lives));
   }

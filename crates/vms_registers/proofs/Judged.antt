@@ -100,7 +100,8 @@ module _ {F K S R : Type 0} (machine : Machine F K S) (cpus_of : F → ℕ)
   all_ended false (s, some) = (held_by r.passes.holders s, shows.hold.lives s some)
 
   -- a pass begins in the slot that was free
-  module _ (q : ℕ) (who : Option CpuId) (step : K) (legal : IsLegal machine facts (record { caller = 0; step = step } ∷ h))
+  module _ (q : ℕ) (who : Option CpuId) (step : K)
+      (legal : IsLegal machine facts (record { caller = 0; step = step } ∷ h))
       (begins : machine.role step ≡ Begins q who)
       (within : (c : CpuId) → who ≡ Some c → c.number < cpus_of facts) where
     acts : Acts machine facts h 0 (Begins q who)
@@ -131,8 +132,9 @@ module _ {F K S R : Type 0} (machine : Machine F K S) (cpus_of : F → ℕ)
           begun_in-main machine.role (record { caller = 0; step = step }) h refl
           ∙ ap (λ (t : Role). begun_after t (begun_in machine.role h)) begins ∙ sym acts.1;
       one_each = length-set r.passes.holders _ q ∙ shows.one_each;
-      hold = HoldPasses-begins machine facts (cpus_of facts) h (held_by r.passes.holders) (slot_of (cpus_of facts) who) q
-          step (held_by (set r.passes.holders (slot_of (cpus_of facts) who) q)) begins-in;
+      hold = HoldPasses-begins machine facts (cpus_of facts) h (held_by r.passes.holders)
+          (slot_of (cpus_of facts) who) q step
+          (held_by (set r.passes.holders (slot_of (cpus_of facts) who) q)) begins-in;
       own = kept (held_by (set r.passes.holders (slot_of (cpus_of facts) who) q)) begins-in shows.own;
     }
 

@@ -87,7 +87,7 @@ impl<T: TableRegisters> Registers<T> {
     {
         match self.passes.slot(caller) {
             None => false,
-            Some(slot) => self.own.meets(facts, slot, step),
+            Some(slot) => self.own.meets(facts, slot, caller, step),
         }
     }
 
@@ -120,7 +120,7 @@ impl<T: TableRegisters> Registers<T> {
         }
         match self.passes.slot(pass as u64) {
             None => false,
-            Some(slot) => self.own.may_end(facts, slot),
+            Some(slot) => self.own.may_end(facts, slot, pass as u64),
         }
     }
 
@@ -137,7 +137,7 @@ impl<T: TableRegisters> Registers<T> {
             return;
         };
         self.passes.look_at(slot);
-        self.own.take(facts, slot, step);
+        self.own.take(facts, slot, caller as u64, step);
     }
 
     fn begin(&mut self, facts: &T::Facts, pass: u32, who: Option<CpuId>)

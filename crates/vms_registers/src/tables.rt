@@ -35,31 +35,31 @@ pub trait TableRegisters: RoleTable + Drop {
         requires { Self.machine.CanBegin facts.now }
         ensures { IsTrue result ↔ Self.machine.MayOwn facts.now who };
 
-    /// Whether the pass in a slot may end.
-    fn may_end(&self, facts: &Self::Facts, slot: u32) -> bool
-        requires { (h : List (Event Self.Step)) × (held : ℕ → ℕ) × (p : ℕ)
-            × StandsIn Self.machine facts.now (cpus_of facts.now) h held slot p × Keeps facts.now h held self.now }
-        ensures { (h : List (Event Self.Step)) (held : ℕ → ℕ) (p : ℕ) →
-            StandsIn Self.machine facts.now (cpus_of facts.now) h held slot p → Keeps facts.now h held self.now →
-            IsTrue result ↔ Self.machine.MayEnd facts.now (own h p) };
+    /// Whether the pass of this number, which stands in this slot, may end.
+    fn may_end(&self, facts: &Self::Facts, slot: u32, pass: u64) -> bool
+        requires { (h : List (Event Self.Step)) × (held : ℕ → ℕ)
+            × StandsIn Self.machine facts.now (cpus_of facts.now) h held slot pass × Keeps facts.now h held self.now }
+        ensures { (h : List (Event Self.Step)) (held : ℕ → ℕ) →
+            StandsIn Self.machine facts.now (cpus_of facts.now) h held slot pass → Keeps facts.now h held self.now →
+            IsTrue result ↔ Self.machine.MayEnd facts.now (own h pass) };
 
-    /// Whether the condition of a step holds for the pass in a slot.
-    fn meets(&self, facts: &Self::Facts, slot: u32, step: &Self::Step) -> bool
-        requires { (h : List (Event Self.Step)) × (held : ℕ → ℕ) × (p : ℕ)
-            × StandsIn Self.machine facts.now (cpus_of facts.now) h held slot p × Keeps facts.now h held self.now }
-        ensures { (h : List (Event Self.Step)) (held : ℕ → ℕ) (p : ℕ) →
-            StandsIn Self.machine facts.now (cpus_of facts.now) h held slot p → Keeps facts.now h held self.now →
-            IsTrue result ↔ Self.machine.Meets facts.now h (state_after Self.machine facts.now h) p step.now };
+    /// Whether the condition of a step holds for the pass of this number, which stands in this slot.
+    fn meets(&self, facts: &Self::Facts, slot: u32, pass: u64, step: &Self::Step) -> bool
+        requires { (h : List (Event Self.Step)) × (held : ℕ → ℕ)
+            × StandsIn Self.machine facts.now (cpus_of facts.now) h held slot pass × Keeps facts.now h held self.now }
+        ensures { (h : List (Event Self.Step)) (held : ℕ → ℕ) →
+            StandsIn Self.machine facts.now (cpus_of facts.now) h held slot pass → Keeps facts.now h held self.now →
+            IsTrue result ↔ Self.machine.Meets facts.now h (state_after Self.machine facts.now h) pass step.now };
 
-    /// Goes on with a step of the pass in a slot.
-    fn take(&mut self, facts: &Self::Facts, slot: u32, step: &Self::Step)
-        requires { (h : List (Event Self.Step)) × (held : ℕ → ℕ) × (p : ℕ)
-            × MayWork Self.machine facts.now (cpus_of facts.now) h held slot p step.now
+    /// Goes on with a step of the pass of this number, which stands in this slot.
+    fn take(&mut self, facts: &Self::Facts, slot: u32, pass: u64, step: &Self::Step)
+        requires { (h : List (Event Self.Step)) × (held : ℕ → ℕ)
+            × MayWork Self.machine facts.now (cpus_of facts.now) h held slot pass step.now
             × Keeps facts.now h held self.old }
-        ensures { (h : List (Event Self.Step)) (held : ℕ → ℕ) (p : ℕ) →
-            MayWork Self.machine facts.now (cpus_of facts.now) h held slot p step.now →
+        ensures { (h : List (Event Self.Step)) (held : ℕ → ℕ) →
+            MayWork Self.machine facts.now (cpus_of facts.now) h held slot pass step.now →
             Keeps facts.now h held self.old →
-            Keeps facts.now (record { caller = p; step = step.now } ∷ h) held self.new };
+            Keeps facts.now (record { caller = pass; step = step.now } ∷ h) held self.new };
 
     // The registers stay as they are where a pass begins, and where it ends.
     ghost begins: { (facts : Self.Facts) (h : List (Event Self.Step)) (held next : ℕ → ℕ) (slot q : ℕ)

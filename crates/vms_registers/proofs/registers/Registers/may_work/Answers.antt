@@ -13,7 +13,6 @@ meets-requires g c =
     let shows = rw (← c.self.view_is) at c.requires.1 in (
       h,
       held_by c.self.inside.passes.holders,
-      c.args.caller,
       stands-held m cpus_of g.T.TableRegisters.Keeps c.args.facts.now h _ shows c.args.caller c.in-Some.slot
           c.in-Some.ensures,
       shows.own,
@@ -33,7 +32,7 @@ returns-in-Some g c = rw (← c.self.view_is) (λ h shows.
     let held = held_by c.self.inside.passes.holders in
     let stands = stands-held m cpus_of g.T.TableRegisters.Keeps c.args.facts.now h _ shows c.args.caller
     c.in-Some.slot c.in-Some.ensures in
-    let meets = c.meets.ensures h held c.args.caller stands shows.own in (
+    let meets = c.meets.ensures h held stands shows.own in (
       λ yes. (
         c.in-Some.ensures.0,
         stands-lives m c.args.facts.now (cpus_of c.args.facts.now) h held c.in-Some.slot c.args.caller stands,

@@ -10,7 +10,6 @@ take-requires g c =
     let shows = rw (← c.self.view_is) at c.requires.1 in (
       h,
       held_by c.self.inside.passes.holders,
-      c.args.caller,
       may-work m g.T.TableRegisters.cpus_of g.T.TableRegisters.Keeps c.args.facts.now h _ shows c.args.caller
           c.in-Some.slot c.args.step.now c.in-Some.ensures c.requires.2 c.requires.3 c.requires.4,
       shows.own,
@@ -25,4 +24,4 @@ returns g c = rw (c.look_at.ensures, ← c.self.view_is) (λ h shows legal short
     c.in-Some.ensures legal short works in
     Shows-works m cpus_of g.T.TableRegisters.Keeps facts h _ shows c.args.caller c.args.step.now c.take.new.self
     c.in-Some.ensures.0 legal
-    (c.take.ensures h (held_by c.self.inside.passes.holders) c.args.caller may shows.own))
+    (c.take.ensures h (held_by c.self.inside.passes.holders) may shows.own))
