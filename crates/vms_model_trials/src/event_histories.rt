@@ -6,7 +6,9 @@ use std::test::Fail;
 use vms_base::{CpuId, CpuState, EventId, Layout, Row, ZoneKind, ZoneName};
 use vms_event_core::{Event, EventFacts, EventState, EventStep};
 use vms_event_judge::JudgedEvents;
+use vms_event_registers::EventRegisters;
 use vms_judge::{Verdict, judge};
+use vms_registers::judge as judge_by_registers;
 
 /// Facts of one zone and as many CPUs as there are states.
 fn facts_of(
@@ -331,6 +333,8 @@ fn histories(rt: HostRuntime) -> Result<(), Fail> {
     let facts = facts_of(rt.alloc(), 4, &STATES, &WORDS)?;
     for (name, events, want) in ROWS.iter() {
         assert_eq!(rt; judge::<JudgedEvents>(&facts, events), *want, "{name}");
+        let told = judge_by_registers::<EventRegisters>(rt.alloc(), &facts, events)?;
+        assert_eq!(rt; told, *want, "{name}, by registers");
     }
     Ok(())
 }
@@ -373,6 +377,8 @@ fn bases(rt: HostRuntime) -> Result<(), Fail> {
     for (name, states, words, events, want) in BASES.iter() {
         let facts = facts_of(rt.alloc(), 2, states, words)?;
         assert_eq!(rt; judge::<JudgedEvents>(&facts, events), *want, "{name}");
+        let told = judge_by_registers::<EventRegisters>(rt.alloc(), &facts, events)?;
+        assert_eq!(rt; told, *want, "{name}, by registers");
     }
     Ok(())
 }

@@ -1,0 +1,4 @@
+mod ShownConditions
+mod ShownSteps
+mod Bounds
+mod Openings
