@@ -43,6 +43,8 @@ MOST_IN_PIECES = 4096
 RUNS_OF_A_RACE = 3
 MOST_ZONE = 1 << 40
 USAGE = b"usage: check | replay | run | gen SEED CPUS LINES | groups\n"
+# That of the plain program, which has its own word alone.
+USAGE_OF_REPLAY = b"usage: replay\n"
 BOUNDARIES = {b"sync", b"flush", b"offline", b"online", b"report"}
 
 
@@ -77,8 +79,8 @@ def without_refusals(checked):
 
 
 class Answers:
-    def __init__(self, programs, shows_all):
-        self.programs, self.shows_all = programs, shows_all
+    def __init__(self, programs, usage, shows_all):
+        self.programs, self.usage, self.shows_all = programs, usage, shows_all
         self.count = self.differ = 0
 
     def expect(self, what, found, wanted, same_in_order=None):
@@ -128,7 +130,7 @@ class Answers:
             file.seek(0)
             done = subprocess.run([self.programs["replay"], *words], stdin=file, capture_output=True, timeout=60)
             left_at = os.lseek(file.fileno(), 0, os.SEEK_CUR)
-        self.expect(f"the words {words}", (done.returncode, done.stdout), (WORDS, USAGE))
+        self.expect(f"the words {words}", (done.returncode, done.stdout), (WORDS, self.usage))
         self.expect(f"how far the words {words} read", (left_at, b""), (0, b""))
 
     def ask_of_watermarks(self, kbytes, scale, managed, total, *marks):
@@ -205,7 +207,7 @@ def main():
     with tempfile.TemporaryDirectory() as folder:
         proved = os.environ.get("VOZHKELL")
         programs = {command: proved or built(command, folder) for command in COMMANDS}
-        answers = Answers(programs, wanted_name is not None)
+        answers = Answers(programs, USAGE if proved else USAGE_OF_REPLAY, wanted_name is not None)
         rows = ask_all(answers, wanted_name)
     if not rows:
         print(f"bench/rows.py: there is no row {wanted_name}", file=sys.stderr)
