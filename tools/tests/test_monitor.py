@@ -398,6 +398,17 @@ class MonitorTest(ToolTest):
                                   capture_output=True)
             self.assertEqual((done.returncode, done.stdout + done.stderr), (0, ""))
 
+    def test_alerts_name_metrics_that_are_printed(self):
+        rules = (TOOLS / "alerts.yml").read_text(encoding="utf-8")
+        names = set(re.findall(r"\bvozhkell_\w+", rules))
+        self.assertEqual(len(names), 2)
+        for name in names:
+            self.assertIn(f"\n{name}{{", self.metrics()[0])
+        if shutil.which("promtool"):
+            done = subprocess.run(["promtool", "check", "rules", str(TOOLS / "alerts.yml")], text=True,
+                                  capture_output=True)
+            self.assertEqual(done.returncode, 0, done.stdout + done.stderr)
+
     def test_this_machine(self):
         rows = [("all CPUs are online", "0-1\n", 40), ("eight CPUs are there", "0-3,8,10-12\n", 320),
                 ("it doesn't say", None, 40)]
