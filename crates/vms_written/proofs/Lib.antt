@@ -1,0 +1,4 @@
+pub mod WrittenLanes
+pub mod WrittenWays
+pub mod SplitSteps
+pub mod Beginnings

@@ -1,0 +1,4 @@
+pub mod WrittenPhases
+pub mod WrittenRuns
+pub mod OpenPhases
+pub mod Common
