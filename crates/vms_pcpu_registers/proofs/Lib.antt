@@ -1,0 +1,3 @@
+mod ShownConditions
+mod ShownSteps
+mod Bounds
