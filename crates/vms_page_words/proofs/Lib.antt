@@ -1,0 +1,4 @@
+mod Slots
+mod StateCells
+mod Bounds
+mod WordSteps
