@@ -13,7 +13,8 @@ use Rattle.vms_core.proofs.Common.{numbers-change}
 use Rattle.vms_registers.specs.Slots.{MayWork}
 use Rattle.vms_page_words.specs.declared.words.PageWords.{PageWords}
 use Rattle.vms_page_words.specs.Words.{KeepsWords, state_of}
-use Rattle.vms_page_words.proofs.Slots.{laws-here, laws-next, legal-next}
+use Rattle.vms_page_words.proofs.Slots.{laws-next, legal-next}
+use Rattle.vms_page_words.proofs.WordsKept.{sets-told}
 
 grown-if : (b : Bool) (n : ℕ) → (if b then suc n else n) ≤ n + 1
 grown-if true n = omega arith
@@ -51,8 +52,7 @@ module _ (facts : Facts) (h : History) (held : ℕ → ℕ) (slot p : ℕ) (step
   threshold_sets-room c g c_in g_in =
       omega (
         arith,
-        ap (λ (s : State). threshold_sets_at s c g) keeps,
-        (laws-here facts h held slot p may.stands).told_numbers c g c_in g_in,
+        sets-told facts h held slot p may.stands r keeps c g c_in g_in,
         sets-most c g h,
         may.short,
       )

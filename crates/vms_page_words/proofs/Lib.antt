@@ -1,4 +1,4 @@
-mod Slots
+pub mod Slots
+pub mod WordsKept
 mod StateCells
 mod Bounds
-mod WordSteps

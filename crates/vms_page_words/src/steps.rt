@@ -36,16 +36,16 @@ impl PageWords {
             Step::SetA(zone, number) => {
                 self.acknowledge(facts, CpuId { number: slot }, zone, number)
             }
-            Step::LoadT(_, _, _) => {}
-            Step::LoadD(_, _, _) => {}
-            Step::Miss(_, _) => {}
-            Step::LoadG(_, _) => {}
-            Step::LoadS(_, _) => {}
-            Step::LoadM(_, _, _) => {}
-            Step::LoadO(_, _) => {}
-            Step::LoadA(_, _, _) => {}
-            Step::Split(_, _) => {}
-            Step::Join(_) => {}
+            Step::LoadT(_, _, _)
+            | Step::LoadD(_, _, _)
+            | Step::Miss(_, _)
+            | Step::LoadG(_, _)
+            | Step::LoadS(_, _)
+            | Step::LoadM(_, _, _)
+            | Step::LoadO(_, _)
+            | Step::LoadA(_, _, _)
+            | Step::Split(_, _)
+            | Step::Join(_) => {}
         }
     }
 

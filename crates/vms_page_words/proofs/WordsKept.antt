@@ -1,32 +1,18 @@
--- For other crates too: words that become what a step makes of them are those of the longer history, and a pass that
--- begins or ends leaves them.
-use Rattle.std.proofs.Common.{◌≡◌, ◌≢◌, ℕ, Bool, true, false, Option, Some, None, ◌∷◌, refl, sym, ap, ◌∙◌}
-use Rattle.vms_history.specs.Common.{CpuId, IsCpu, IsPlace, Works, owner_in}
+-- For other crates too: what the words tell of a history in which a pass stands in a slot, and that a pass which begins
+-- or ends leaves them.
+use Rattle.std.proofs.Common.{◌≡◌, ◌≢◌, ◌↔◌, subst, ℕ, ◌∷◌, sym, ap, ◌∙◌}
+use Rattle.vms_history.specs.Common.{IsCpu, IsPlace, Works, owner_in}
 use Rattle.vms_core.specs.declared.states.State.{State}
 use Rattle.vms_core.specs.declared.steps.Facts.{Facts}
 use Rattle.vms_core.specs.declared.steps.Step.{Step}
-use Rattle.vms_core.specs.declared.steps.Step.TheVariants.{Put, SetA}
-use Rattle.vms_core.specs.Common.{HasShape, History, cpu_at, cpu_in, effect, effect_of, pages, quiet_pages, role}
+use Rattle.vms_core.specs.Common.{HasShape, History, cpu_at, cpu_in, pages, quiet_pages, role}
+use Rattle.vms_core.specs.Common.{Meets}
 use Rattle.vms_core.specs.Common.{sets, state_after, threshold_at, threshold_in, threshold_sets_at}
 use Rattle.vms_registers.specs.Slots.{BeginsIn, EndsIn, StandsIn, owner_of}
 use Rattle.vms_registers.proofs.QuietRoles.{begins-differs, ends-differs}
 use Rattle.vms_page_words.specs.declared.words.PageWords.{PageWords}
 use Rattle.vms_page_words.specs.Words.{KeepsWords, state_of}
-use Rattle.vms_page_words.proofs.Slots.{laws-here, owner-here}
-
--- an exchange that wins and an acknowledgement alone change numbers of the own CPU
-abbrev is_owned : Step → Bool
-is_owned (Put k w t delta how) = true
-is_owned (SetA g a) = true
-is_owned _ = false
-
--- another step does the same whoever makes it
-pub effect-by_all : (facts : Facts) (who : Option CpuId) (step : Step) (s : State) → is_owned step ≡ false
-    → effect facts who step s ≡ effect_of step s
-effect-by_all facts None step s other = refl
-effect-by_all facts (Some c) (Put k w t delta how) s other = absurd (cc)
-effect-by_all facts (Some c) (SetA g a) s other = absurd (cc)
-effect-by_all facts (Some c) _ s other = refl
+use Rattle.vms_page_words.proofs.Slots.{laws-here}
 
 module _ (facts : Facts) (h : History) (held : ℕ → ℕ) (slot p : ℕ)
     (stands : StandsIn pages facts facts.layout.cpus h held slot p) (r : PageWords) (keeps : KeepsWords facts h r) where
@@ -49,21 +35,12 @@ module _ (facts : Facts) (h : History) (held : ℕ → ℕ) (slot p : ℕ)
   cpu-told c c_in =
       ap (λ (s : State). cpu_at s c) keeps ∙ (laws-here facts h held slot p stands).told_cpus c c_in
 
-  pub KeepsWords-goes_on : (step : Step) (next : PageWords)
-      → state_of next ≡ effect facts (owner_of facts.layout.cpus slot) step (state_of r)
-      → KeepsWords facts (record { caller = p; step = step } ∷ h) next
-  KeepsWords-goes_on step next on =
-      on
-      ∙ ap (effect facts (owner_of facts.layout.cpus slot) step) keeps
-      ∙ ap (λ (w : Option CpuId). effect facts w step (state_after facts h))
-      (sym (owner-here facts h held slot p stands))
-
-  pub KeepsWords-by_all : (step : Step) (next : PageWords) → is_owned step ≡ false
-      → state_of next ≡ effect_of step (state_of r)
-      → KeepsWords facts (record { caller = p; step = step } ∷ h) next
-  KeepsWords-by_all step next other on =
-      KeepsWords-goes_on step next
-      (on ∙ sym (effect-by_all facts (owner_of facts.layout.cpus slot) step (state_of r) other))
+  -- a condition of the words is that of the state
+  pub meets-same : (step : Step) → Meets facts h (state_of r) p step ↔ Meets facts h (state_after facts h) p step
+  meets-same step = (
+    subst (λ (s : State). Meets facts h s p step) keeps,
+    subst (λ (s : State). Meets facts h s p step) (sym keeps),
+  )
 
 module _ (facts : Facts) (h : History) (held next : ℕ → ℕ) (slot q : ℕ) (step : Step) (r : PageWords)
     (keeps : KeepsWords facts h r) where
