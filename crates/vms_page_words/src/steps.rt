@@ -29,7 +29,7 @@ impl PageWords {
             }
             Step::AddG(counter, amount) => self.add_to_place(counter, amount),
             Step::AddS(item, amount) => self.add_to_system(item, amount),
-            Step::Take(cpu, group, _) => self.empty(facts, cpu, group),
+            Step::Take(cpu, group, _) => self.zero_group(facts, cpu, group),
             Step::SetT(cpu, place, t) => self.set_threshold(facts, cpu, place, t),
             Step::SetM(zone, mark) => self.set_mark(facts, zone, mark),
             Step::SetO(cpu) => self.set_absent(facts, cpu),
@@ -49,7 +49,7 @@ impl PageWords {
         }
     }
 
-    /// Changes a differential of a CPU, in which the list was found.
+    /// Changes a differential of a CPU, in whose group this list was found.
     fn put(
         &mut self,
         facts: &Facts,
@@ -95,7 +95,7 @@ impl PageWords {
     }
 
     /// The differentials of a CPU in a group become 0.
-    fn empty(&mut self, facts: &Facts, cpu: CpuId, group: GroupId)
+    fn zero_group(&mut self, facts: &Facts, cpu: CpuId, group: GroupId)
         requires shaped { HasShape facts.now.layout (state_of self.old) }
         requires cpu { IsCpu facts.now.layout cpu.number }
         requires group { IsGroup facts.now.layout group.number }

@@ -7,8 +7,8 @@ use crate::cells::{counter_cell, group_cell, place_cell};
 use vms_base::{CounterId, CpuId, CpuState, Diffs, GroupId, PlaceId, Row};
 use vms_core::Facts;
 
-/// The numbers of the page counters that stand after a history, in pages of 4096 bytes. Sets are counted up to the
-/// length of any history, which a `State` doesn't do.
+/// The numbers of the page counters that stand after a history, in pages of 4096 bytes. Unlike a `State` they count
+/// sets up to the length of any history.
 #[derive(Debug, Drop)]
 pub struct PageWords {
     /// The global values by counter.

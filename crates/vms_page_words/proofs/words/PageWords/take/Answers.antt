@@ -40,8 +40,8 @@ add_to_system-requires-clause-room c =
     (system-room c.args.facts.now c.requires.0 c.requires.1 c.args.slot c.requires.2 c.args.self.now c.requires.4
     c.in-AddS.item c.in-AddS.amount may)
 
-pub empty-requires-clause-shaped : goal.empty-requires-clause-shaped
-empty-requires-clause-shaped c =
+pub zero_group-requires-clause-shaped : goal.zero_group-requires-clause-shaped
+zero_group-requires-clause-shaped c =
     shaped c.args.facts.now c.requires.0 c.requires.1 c.args.slot c.requires.2 c.requires.3.stands c.args.self.now
     c.requires.4
 
