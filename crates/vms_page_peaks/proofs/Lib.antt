@@ -1,0 +1,7 @@
+mod Choices
+mod PeakSums
+mod PeakChanges
+mod RaisedSums
+mod Slots
+mod KeptSteps
+pub mod PassesKept
