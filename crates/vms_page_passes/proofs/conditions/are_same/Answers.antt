@@ -1,0 +1,7 @@
+-- Two lists are equal where their entries are.
+use Rattle.std.specs.Cmp.{signed_Decides}
+use Rattle.std.proofs.lemmas.Slice.Eq.{slice_eq-Decides}
+use Rattle.vms_page_passes.proofs.conditions.are_same.Goals as goal
+
+pub returns : goal.returns
+returns c = slice_eq-Decides signed_Decides _ _ _ c.eq.ensures

@@ -1,0 +1,5 @@
+pub mod Notes
+pub mod Amounts
+pub mod Known
+pub mod Keeps
+pub mod Conditions
