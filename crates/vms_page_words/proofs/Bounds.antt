@@ -46,7 +46,8 @@ mark_sets-most facts (e ∷ h) legal g g_in =
     )
 
 module _ (facts : Facts) (h : History) (held : ℕ → ℕ) (slot p : ℕ) (step : Step)
-    (may : MayWork pages facts facts.layout.cpus h held slot p step) (r : PageWords) (keeps : KeepsWords facts h r) where
+    (may : MayWork pages facts facts.layout.cpus h held slot p step) (r : PageWords)
+    (keeps : KeepsWords facts h r) where
   pub threshold_sets-room : (c g : ℕ) → IsCpu facts.layout c → IsPlace facts.layout g
       → threshold_sets_at (state_of r) c g + 1 < 2 ^ 64
   threshold_sets-room c g c_in g_in =

@@ -1,5 +1,5 @@
--- For other crates too: the slot of a pass tells which CPU it owns, and what a history of page counters is with its next
--- step.
+-- For other crates too: the slot of a pass tells which CPU it owns, and a history of page counters with its next step
+-- is legal.
 use Rattle.std.proofs.Common.{◌≡◌, ◌↔◌, ℕ, ◌<◌, ◌≤◌, Bool, true, false, Option, Some, None, ◌∷◌}
 use Rattle.std.proofs.Common.{refl, sym, ap, ◌∙◌, arith, if◌then◌else◌, nat_eq, eqb-true, eq-eqb, ne_eqb}
 use Rattle.std.proofs.lemmas.Bool.{eqb-false}

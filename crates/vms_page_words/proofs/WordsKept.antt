@@ -24,12 +24,14 @@ module _ (facts : Facts) (h : History) (held : ℕ → ℕ) (slot p : ℕ)
   pub threshold-told : (c g : ℕ) → IsCpu facts.layout c → IsPlace facts.layout g
       → threshold_at (state_of r) c g ≡ threshold_in facts c g h
   threshold-told c g c_in g_in =
-      ap (λ (s : State). threshold_at s c g) keeps ∙ (laws-here facts h held slot p stands).told_thresholds c g c_in g_in
+      ap (λ (s : State). threshold_at s c g) keeps
+      ∙ (laws-here facts h held slot p stands).told_thresholds c g c_in g_in
 
   pub sets-told : (c g : ℕ) → IsCpu facts.layout c → IsPlace facts.layout g
       → threshold_sets_at (state_of r) c g ≡ sets c g h
   sets-told c g c_in g_in =
-      ap (λ (s : State). threshold_sets_at s c g) keeps ∙ (laws-here facts h held slot p stands).told_numbers c g c_in g_in
+      ap (λ (s : State). threshold_sets_at s c g) keeps
+      ∙ (laws-here facts h held slot p stands).told_numbers c g c_in g_in
 
   pub cpu-told : (c : ℕ) → IsCpu facts.layout c → cpu_at (state_of r) c ≡ cpu_in facts c h
   cpu-told c c_in =

@@ -1,7 +1,8 @@
 //! Where the number of a CPU for a place, a zone or a counter stands in a list that has such numbers by CPU.
 
 ghost use Rattle.std.specs.Prelude.{◌≡◌, ◌+◌, ◌*◌, ◌<◌, ◌≤◌, ◌^◌, length};
-ghost use Rattle.vms_history.specs.Common.{IsCounter, IsCpu, IsGroup, IsLayout, IsPlace, IsZone, counter_count, place_count};
+ghost use Rattle.vms_history.specs.Common.{IsCounter, IsCpu, IsGroup, IsLayout, IsPlace, IsZone, counter_count};
+ghost use Rattle.vms_history.specs.Common.{place_count};
 ghost use Rattle.vms_base.specs.Places as places;
 
 use vms_base::{CounterId, CpuId, GroupId, Layout, PlaceId};

@@ -111,8 +111,8 @@ impl PageWords {
         requires room { threshold_sets_at (state_of self.old) cpu.number place.number + 1 < 2 ^ 64 }
         ensures { state_of self.new ≡ with_threshold (state_of self.old) cpu.number place.number t }
     {
+        let number = self.threshold_sets(facts, cpu, place);
         let at = place_cell(&facts.layout, cpu, place);
-        let number = self.threshold_sets.get(at);
         self.threshold.set(at, t);
         self.threshold_sets.set(at, number + 1);
     }

@@ -1,6 +1,7 @@
 ghost use Rattle.std.specs.Prelude.{◌≡◌, ◌↔◌, ℕ, IsTrue, pos};
 ghost use Rattle.vms_history.specs.Common.{IsCounter, IsCpu, IsGroup, IsPlace, IsZone};
-ghost use Rattle.vms_core.specs.Common.{HasShape, TellsGroup, cpu_at, diff_at, mark_at, threshold_at, threshold_sets_at};
+ghost use Rattle.vms_core.specs.Common.{HasShape, TellsGroup, cpu_at, diff_at, mark_at, threshold_at};
+ghost use Rattle.vms_core.specs.Common.{threshold_sets_at};
 ghost use Rattle.vms_page_words.specs.Words.{state_of};
 
 use crate::cells::{counter_cell, group_cell, place_cell};
