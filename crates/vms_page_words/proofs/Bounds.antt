@@ -7,8 +7,8 @@ use Rattle.vms_core.specs.declared.states.State.{State}
 use Rattle.vms_core.specs.declared.steps.Facts.{Facts}
 use Rattle.vms_core.specs.declared.steps.Step.{Step}
 use Rattle.vms_core.specs.declared.steps.Step.TheVariants.{AddG, AddS, SetM, SetT}
-use Rattle.vms_core.specs.Common.{History, IsLegal, mark_sets_after, mark_sets_at, pages, sets, sets_after}
-use Rattle.vms_core.specs.Common.{state_after, system_at, threshold_sets_at, value_at}
+use Rattle.vms_core.specs.Common.{History, IsLegal, mark_sets_after, mark_sets_at, pages, sets, sets_after, state_after}
+use Rattle.vms_core.specs.Common.{system_at, threshold_sets_at, value_at}
 use Rattle.vms_core.proofs.Common.{numbers-change}
 use Rattle.vms_registers.specs.Slots.{MayWork}
 use Rattle.vms_page_words.specs.declared.words.PageWords.{PageWords}

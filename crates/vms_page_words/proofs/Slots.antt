@@ -1,7 +1,7 @@
 -- For other crates too: the slot of a pass tells which CPU it owns, and a history of page counters with its next step
 -- is legal.
-use Rattle.std.proofs.Common.{◌≡◌, ◌↔◌, ℕ, ◌<◌, ◌≤◌, Bool, true, false, Option, Some, None, ◌∷◌}
-use Rattle.std.proofs.Common.{refl, sym, ap, ◌∙◌, arith, if◌then◌else◌, nat_eq, eqb-true, eq-eqb, ne_eqb}
+use Rattle.std.proofs.Common.{◌≡◌, ◌↔◌, ℕ, ◌<◌, ◌≤◌, Bool, true, false, Option, Some, None, ◌∷◌, refl, sym, ap, ◌∙◌}
+use Rattle.std.proofs.Common.{arith, if◌then◌else◌, nat_eq, eqb-true, eq-eqb, ne_eqb}
 use Rattle.std.proofs.lemmas.Bool.{eqb-false}
 use Rattle.vms_history.specs.Common.{CpuId, owner_in}
 use Rattle.vms_history.proofs.Common.{base_can_begin}

@@ -5,9 +5,8 @@ use Rattle.vms_history.specs.Common.{IsCpu, IsPlace, Works, owner_in}
 use Rattle.vms_core.specs.declared.states.State.{State}
 use Rattle.vms_core.specs.declared.steps.Facts.{Facts}
 use Rattle.vms_core.specs.declared.steps.Step.{Step}
-use Rattle.vms_core.specs.Common.{HasShape, History, cpu_at, cpu_in, pages, quiet_pages, role}
-use Rattle.vms_core.specs.Common.{Meets}
-use Rattle.vms_core.specs.Common.{sets, state_after, threshold_at, threshold_in, threshold_sets_at}
+use Rattle.vms_core.specs.Common.{HasShape, History, cpu_at, cpu_in, pages, quiet_pages, role, Meets, sets, state_after}
+use Rattle.vms_core.specs.Common.{threshold_at, threshold_in, threshold_sets_at}
 use Rattle.vms_registers.specs.Slots.{BeginsIn, EndsIn, StandsIn, owner_of}
 use Rattle.vms_registers.proofs.QuietRoles.{begins-differs, ends-differs}
 use Rattle.vms_page_words.specs.declared.words.PageWords.{PageWords}
