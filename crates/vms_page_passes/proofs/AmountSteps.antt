@@ -1,12 +1,12 @@
 -- What the passes in their slots carry, before a step and after it.
-use Rattle.std.proofs.Common.{◌≡◌, ℕ, zero, suc, ◌+◌, ◌*◌, ◌%◌, ◌<◌, ◌≤◌, ◌&&◌, Bool, true, false, ◌∷◌, ℤ, pos}
-use Rattle.std.proofs.Common.{◌+ℤ◌, List, get_or, unsigned_abs, refl, sym, ap, ◌∙◌, arith, if◌then◌else◌, nat_eq, nat_lt}
+use Rattle.std.proofs.Common.{◌≡◌, ℕ, zero, suc, ◌+◌, ◌*◌, ◌%◌, ◌<◌, ◌≤◌, ◌&&◌, Bool, true, false, List, ◌∷◌, ℤ, pos}
+use Rattle.std.proofs.Common.{◌+ℤ◌, get_or, unsigned_abs, refl, sym, ap, ◌∙◌, arith, if◌then◌else◌, nat_eq, nat_lt}
 use Rattle.std.proofs.Common.{eq-eqb, eqb-true}
 use Rattle.std.proofs.lemmas.Int.{ints}
 use Rattle.std.proofs.lemmas.Bool.{eqb-false, ne_eqb}
 use Rattle.std.proofs.lemmas.Bool.Decides.{nat_tests}
 use Rattle.vms_history.specs.Common.{IsCounter, IsItem, Shape, counter_count, first_of_group, group_of, item_count}
-use Rattle.vms_history.specs.Common.{item_of}
+use Rattle.vms_history.specs.Common.{item_of, sum_below}
 use Rattle.vms_history.proofs.Common.{if-map}
 use Rattle.vms_cells.specs.Cells.{Cells, HasCells, at, with_cell}
 use Rattle.vms_cells.proofs.WrittenCells.{HasCells-with_cell, at-with_cell}
@@ -16,7 +16,7 @@ use Rattle.vms_core.specs.Common.{History, carried, carried_of_item, entry, move
 use Rattle.vms_registers.specs.Slots.{StandsIn, held_events}
 use Rattle.vms_registers.proofs.HeldEvents.{held_events-works}
 use Rattle.vms_page_passes.specs.declared.amounts.Amounts.{Amounts}
-use Rattle.vms_page_passes.specs.Amounts.{Carries, HasAmounts, counters_first, items_first}
+use Rattle.vms_page_passes.specs.Amounts.{Carries, HasAmounts}
 use Rattle.vms_page_passes.specs.Keeps.{KeepsAmounts}
 
 -- one amount of a table changes by x, or none does
@@ -52,8 +52,8 @@ module _ (shape : Shape) (slot : ℕ) (slot_in : slot ≤ shape.cpus) (amounts :
 
   module _ (k : ℕ) (k_in : IsCounter shape k) (x v : ℤ) (v_is : v ≡ x +ℤ at amounts.by_counter slot k (pos 0)) where
     whole_counters : HasCells (shape.cpus + 1) (counter_count shape) (with_cell amounts.by_counter slot k v)
-    whole_counters = HasCells-with_cell (shape.cpus + 1) (counter_count shape) amounts.by_counter shaped.by_counter slot k
-        slot_below k_in v
+    whole_counters = HasCells-with_cell (shape.cpus + 1) (counter_count shape) amounts.by_counter shaped.by_counter slot
+        k slot_below k_in v
 
     counters : (s l : ℕ) → IsCounter shape l → at (with_cell amounts.by_counter slot k v) s l (pos 0)
         ≡ (if nat_eq slot s then (if nat_eq k l then x else pos 0) +ℤ at amounts.by_counter s l (pos 0)
@@ -147,7 +147,14 @@ module _ (shape : Shape) (slot : ℕ) (counters items : ℕ → ℤ) (old new : 
       both true x y z w is = omega (arith, ints, is)
       both false x y z w is = is
 
--- the first entries of a group's list
+-- what the first n entries of a group's list are for a counter and for an item
+abbrev pub counters_first : ℕ → List ℤ → ℕ → ℕ → ℤ
+counters_first j values n k = if nat_eq j (group_of k) && nat_lt (k % 8) n then entry values k else pos 0
+
+abbrev pub items_first : Shape → ℕ → List ℤ → ℕ → ℕ → ℤ
+items_first shape j values n i =
+    sum_below (λ m. if nat_eq (item_of shape (first_of_group j + m)) i then get_or values m (pos 0) else pos 0) n
+
 module _ (shape : Shape) (j : ℕ) (values : List ℤ) where
   next_counter : (n k : ℕ) → n < 8
       → (if nat_eq (first_of_group j + n) k then get_or values n (pos 0) else pos 0) +ℤ counters_first j values n k
@@ -225,7 +232,8 @@ module _ (shape : Shape) (j : ℕ) (values : List ℤ) where
       by (nat_eq (item_of shape (first_of_group j + n)) i) (items_first-small small n i)
     where
       by : (b : Bool) → unsigned_abs (items_first shape j values n i) ≤ 128 * n
-          → unsigned_abs ((if b then get_or values n (pos 0) else pos 0) +ℤ items_first shape j values n i) ≤ 128 * suc n
+          → unsigned_abs ((if b then get_or values n (pos 0) else pos 0) +ℤ items_first shape j values n i)
+          ≤ 128 * suc n
       by true rest = omega (arith, ints, small n)
       by false rest = omega (arith, ints)
 

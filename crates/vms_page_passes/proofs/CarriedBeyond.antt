@@ -29,7 +29,8 @@ module _ (facts : Facts) (h : History) (s : State) (p : ℕ) (layout : IsLayout 
       rw (ne_eqb (item_of facts.layout l.number) i (omega arith)) refl
   moved_of_item-beyond (Take c j w) i meets beyond =
       sum_below-zeros
-      (λ n. if nat_eq (item_of facts.layout (first_of_group j.number + n)) i then get_or w.values n (pos 0) else pos 0) 8
+      (λ n. if nat_eq (item_of facts.layout (first_of_group j.number + n)) i then get_or w.values n (pos 0)
+      else pos 0) 8
       (λ n n_in.
       let within = item_of-lt facts.layout layout (first_of_group j.number + n) in
       rw (ne_eqb (item_of facts.layout (first_of_group j.number + n)) i (omega arith)) refl)

@@ -10,10 +10,11 @@ use Rattle.vms_cells.proofs.WrittenCells.{HasCells-filled, at-filled}
 use Rattle.vms_core.specs.declared.steps.Facts.{Facts}
 use Rattle.vms_core.specs.declared.steps.Step.{Step}
 use Rattle.vms_core.specs.Common.{found}
+use Rattle.vms_registers.specs.Slots.{held_events}
 use Rattle.vms_page_passes.specs.declared.passes.PagePasses.{PagePasses}
-use Rattle.vms_page_passes.specs.Keeps.{KeepsPassNotes, unfound, unloaded}
+use Rattle.vms_page_passes.specs.Keeps.{KeepsPassNotes, unfound}
+use Rattle.vms_page_passes.specs.Notes.{noted, unloaded}
 use Rattle.vms_page_passes.specs.Known.{KeepsKnown}
-use Rattle.vms_page_passes.specs.Notes.{noted}
 
 KeepsKnown-none : {X : Type 0} (cpus width : ℕ) (blank : Stamped X)
     (known : CpuId → ℕ → List (Event Step) → Option X) (held : ℕ → ℕ) (cells : Cells (Stamped X))
@@ -24,8 +25,8 @@ KeepsKnown-none cpus width blank known held cells unwritten nothing is = record 
   writers = λ s n s_in n_in. rw (is, at-filled cpus width blank s n, unwritten) (omega arith);
   tells = λ s n s_in n_in some.
       let other : nat_eq 0 (held s) ≡ false = ne_eqb 0 (held s) (λ none. some (sym none)) in
-      rw (is, at-filled cpus width blank s n, unwritten, other, if-either {X = List (Event Step)} (nat_eq (held s) 0) [])
-      (sym (nothing (record { number = s }) n));
+      let none : held_events {K = Step} held [] s ≡ [] = if-either (nat_eq (held s) 0) [] in
+      rw (is, at-filled cpus width blank s n, unwritten, other, none) (sym (nothing (record { number = s }) n));
 }
 
 pub KeepsPassNotes-none : (facts : Facts) (held : ℕ → ℕ) (r : PagePasses)

@@ -14,9 +14,9 @@ use Rattle.vms_registers.specs.Slots.{BeginsIn, EndsIn, held_events, owner_of}
 use Rattle.vms_registers.proofs.HeldEvents.{held_events-begins, held_events-ends, held_events-here}
 use Rattle.vms_page_passes.specs.declared.amounts.Amounts.{Amounts}
 use Rattle.vms_page_passes.specs.declared.passes.PagePasses.{PagePasses}
-use Rattle.vms_page_passes.specs.Keeps.{KeepsAmounts, KeepsPassNotes, unfound, unloaded}
+use Rattle.vms_page_passes.specs.Keeps.{KeepsAmounts, KeepsPassNotes, unfound}
+use Rattle.vms_page_passes.specs.Notes.{noted, unloaded}
 use Rattle.vms_page_passes.specs.Known.{KeepsKnown}
-use Rattle.vms_page_passes.specs.Notes.{noted}
 
 module _ (facts : Facts) (h : History) (held next : ℕ → ℕ) (slot q : ℕ) (step : Step) where
   module _ {X : Type 0} (width : ℕ) (blank : Stamped X) (known : CpuId → ℕ → List (Event Step) → Option X)

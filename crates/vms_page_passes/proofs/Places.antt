@@ -32,7 +32,8 @@ module _ (shape : Shape) (layout : IsLayout shape) where
   -- a place has no others
   pub group-first_or_last : (j g : ℕ) → place_of shape (first_of_group j) ≡ g
       → (j ≡ first_group shape g) ⊎ (j ≡ last_group shape g)
-  group-first_or_last j g = elim layout.positions [ inl is ↦ subst Ends (sym is) narrow | inr is ↦ subst Ends (sym is) wide ]
+  group-first_or_last j g =
+      elim layout.positions [ inl is ↦ subst Ends (sym is) narrow | inr is ↦ subst Ends (sym is) wide ]
     where
       Ends : ℕ → Type 0
       Ends n = 8 * j / n ≡ g → (j ≡ (n * g + 0) / 8) ⊎ (j ≡ (n * g + (n - 1)) / 8)

@@ -24,8 +24,8 @@ use Rattle.vms_page_passes.specs.declared.notes.Loaded.{Loaded}
 use Rattle.vms_page_passes.specs.declared.passes.PagePasses.{PagePasses}
 use Rattle.vms_page_passes.specs.Amounts.{HasRoom}
 use Rattle.vms_page_passes.specs.Conditions.{KnowsForPut, MayBeAcknowledged}
-use Rattle.vms_page_passes.specs.Keeps.{IsKept, KeepsPassNotes, unfound, unloaded}
-use Rattle.vms_page_passes.specs.Notes.{first_group, last_group, noted}
+use Rattle.vms_page_passes.specs.Keeps.{IsKept, KeepsPassNotes, unfound}
+use Rattle.vms_page_passes.specs.Notes.{first_group, last_group, noted, unloaded}
 use Rattle.vms_page_passes.proofs.CarriedBeyond.{carried-beyond, carried_of_item-beyond}
 use Rattle.vms_page_passes.proofs.KnownSteps.{known-here}
 use Rattle.vms_page_passes.proofs.Places.{first_group-known, first_group-place, group-first_or_last}
@@ -81,7 +81,7 @@ module _ (facts : Facts) (h : History) (held : ℕ → ℕ) (slot p : ℕ)
       → written_by p (at r.found slot j unfound) ≡ found (record { number = slot }) j (own h p)
   found-here = known-here facts (group_count facts.layout) unfound found h held r.found keeps.found slot p stands
 
-  noted-here : slot < facts.layout.cpus → (g : ℕ) → IsPlace facts.layout g
+  pub noted-here : slot < facts.layout.cpus → (g : ℕ) → IsPlace facts.layout g
       → written_by p (at r.loaded slot g unloaded) ≡ noted facts.layout (record { number = slot }) g (own h p)
   noted-here =
       known-here facts (place_count facts.layout) unloaded (noted facts.layout) h held r.loaded keeps.loaded slot p
@@ -117,7 +117,8 @@ module _ (facts : Facts) (h : History) (held : ℕ → ℕ) (slot p : ℕ)
       ];
       items = λ i. elim (cases_lt i (item_count facts.layout)) [
         | inl within ↦
-            let wide = keeps.carried.shaped.by_item.wide in sym (carried_of_item-here i within) ∙ empty.1 i (omega arith)
+            let wide = keeps.carried.shaped.by_item.wide in
+            sym (carried_of_item-here i within) ∙ empty.1 i (omega arith)
         | inr beyond ↦ carried_of_item-beyond facts h stands.legal p i beyond
       ];
     },
@@ -137,13 +138,14 @@ module _ (facts : Facts) (h : History) (held : ℕ → ℕ) (slot p : ℕ)
   knows_for_put-shown k w t below k_in list told is load = (
     λ nothing.
         let place_in = place_of-lt facts.layout is_layout k.number k_in in
+        let group_in = group_of-lt facts.layout is_layout k.number k_in in
         let tells = noted-tells facts.layout (record { number = slot }) (place_of facts.layout k.number) (own h p) told
         (sym (noted-here below (place_of facts.layout k.number) place_in) ∙ load) in
         record {
           cpu = record { number = slot };
           owns = owns-slot facts h held slot p stands below;
           counter = k_in;
-          as_found = sym (found-here below (group_of k.number) (group_of-lt facts.layout is_layout k.number k_in)) ∙ list;
+          as_found = sym (found-here below (group_of k.number) group_in) ∙ list;
           number = told.number;
           as_loaded = tells.load ∙ ap (λ (n : ℕ). Some (record { t = n; number = told.number })) is;
           nothing_carried = nothing;

@@ -1,29 +1,32 @@
 -- What each kind of step makes of what is kept is what the longer history asks.
-use Rattle.std.proofs.Common.{◌≡◌, ℕ, ◌+◌, ◌%◌, ◌<◌, Bool, true, false, List, ◌∷◌, ℤ, pos, neg_ℤ, Some, refl, sym, ap, ◌∙◌}
-use Rattle.std.proofs.Common.{arith, if◌then◌else◌, nat_eq, eq-eqb, eqb-true, slice_set}
+use Rattle.std.proofs.Common.{◌≡◌, ℕ, ◌+◌, ◌%◌, ◌<◌, ◌≤◌, Bool, true, false, List, ◌∷◌, ℤ, pos, neg_ℤ, Some, refl, sym}
+use Rattle.std.proofs.Common.{ap, ◌∙◌, arith, if◌then◌else◌, nat_eq, eq-eqb, eqb-true, slice_set}
 use Rattle.std.proofs.lemmas.Bool.{eqb-false}
 use Rattle.vms_history.specs.Common.{CounterId, CpuId, Diffs, GroupId, IsCounter, IsCpu, IsGroup, IsLayout, IsPlace}
 use Rattle.vms_history.specs.Common.{ItemId, Mode, PlaceId, first_of_group, group_count, group_of, item_of, own}
-use Rattle.vms_history.specs.Common.{place_count, place_of}
+use Rattle.vms_history.specs.Common.{begun_in, place_count, place_of}
 use Rattle.vms_base.proofs.Common.{IsCounter-member, group_of-lt, place_of-lt}
+use Rattle.vms_cells.specs.declared.stamps.Stamped.{Stamped}
 use Rattle.vms_cells.specs.Cells.{at, with_cell}
+use Rattle.vms_cells.specs.Stamps.{written_by}
 use Rattle.vms_core.specs.declared.steps.Facts.{Facts}
 use Rattle.vms_core.specs.declared.steps.Step.{Step}
 use Rattle.vms_core.specs.declared.steps.Step.TheVariants.{AddG, AddS, LoadD, LoadT, Miss, Put, Take}
 use Rattle.vms_core.specs.Conditions.{AddsToPlace, AddsToSystem}
 use Rattle.vms_core.specs.Common.{History, carried_by, differential_after, eight_zeros, entries_of, entry, found, moved}
-use Rattle.vms_core.specs.Common.{moved_of_item, pages}
+use Rattle.vms_core.specs.Common.{moved_of_item, pages, role}
 use Rattle.vms_registers.specs.Slots.{StandsIn}
 use Rattle.vms_page_passes.specs.declared.amounts.Amounts.{Amounts}
+use Rattle.vms_page_passes.specs.declared.notes.Loaded.{Loaded}
 use Rattle.vms_page_passes.specs.declared.passes.PagePasses.{PagePasses}
 use Rattle.vms_page_passes.specs.Amounts.{Carries}
-use Rattle.vms_page_passes.specs.Keeps.{KeepsAmounts, KeepsPassNotes, unfound, unloaded, with_taken}
+use Rattle.vms_page_passes.specs.Keeps.{KeepsAmounts, KeepsPassNotes, unfound}
+use Rattle.vms_page_passes.specs.Notes.{loading, noted, putting, taking_of, unloaded, with_taken}
 use Rattle.vms_page_passes.specs.Known.{KeepsKnown}
-use Rattle.vms_page_passes.specs.Notes.{loading, noted, putting, taking_of}
 use Rattle.vms_page_passes.proofs.AmountSteps.{Carries-none, Carries-same, KeepsAmounts-goes_on}
-use Rattle.vms_page_passes.proofs.KnownSteps.{KeepsKnown-same, KeepsKnown-writes, known-here}
+use Rattle.vms_page_passes.proofs.KnownSteps.{KeepsKnown-same, KeepsKnown-writes}
 use Rattle.vms_page_passes.proofs.NotedSteps.{noted-put, noted-take, noted-take_other}
-use Rattle.vms_page_passes.proofs.ShownConditions.{carried-here, carried_of_item-here, is_layout}
+use Rattle.vms_page_passes.proofs.ShownConditions.{carried-here, carried_of_item-here, is_layout, noted-here}
 use Rattle.vms_page_passes.proofs.Slots.{number-begun}
 
 module _ (facts : Facts) (h : History) (held : ℕ → ℕ) (slot p : ℕ)
@@ -51,7 +54,8 @@ module _ (facts : Facts) (h : History) (held : ℕ → ℕ) (slot p : ℕ)
       KeepsKnown-same facts (place_count facts.layout) unloaded (noted facts.layout) h held r.loaded keeps.loaded slot p
       stands step (λ below g. same g)
 
-  carried-same : (step : Step) → ((k : ℕ) → moved k step ≡ pos 0) → ((i : ℕ) → moved_of_item facts.layout i step ≡ pos 0)
+  carried-same : (step : Step) → ((k : ℕ) → moved k step ≡ pos 0)
+      → ((i : ℕ) → moved_of_item facts.layout i step ≡ pos 0)
       → KeepsAmounts facts (record { caller = p; step = step } ∷ h) held r.carried
   carried-same step first second =
       KeepsAmounts-goes_on facts h held slot p stands r.carried keeps.carried step r.carried
@@ -73,7 +77,33 @@ module _ (facts : Facts) (h : History) (held : ℕ → ℕ) (slot p : ℕ)
     carried = carried-same step none none_of_item;
   }
 
-  -- a list that is found in a group, where it is one of the own CPU
+  -- a list that is found in a group of the own CPU, and a note of one of its places
+  found-writes : (step : Step) → slot < facts.layout.cpus → (j : ℕ) → IsGroup facts.layout j → (values : List ℤ)
+      → found (record { number = slot }) j (record { caller = p; step = step } ∷ own h p) ≡ Some values
+      → ((i : ℕ) → nat_eq j i ≡ false
+      → found (record { number = slot }) i (record { caller = p; step = step } ∷ own h p)
+      ≡ found (record { number = slot }) i (own h p))
+      → KeepsKnown facts.layout.cpus (group_count facts.layout) unfound found
+      (record { caller = p; step = step } ∷ h) held
+      (with_cell r.found slot j (record { writer = p; value = values }))
+  found-writes step below j j_in values here others =
+      KeepsKnown-writes facts (group_count facts.layout) unfound found h held r.found keeps.found slot p stands step
+      below j j_in (record { writer = p; value = values }) (number-begun facts h held slot p stands)
+      (rw (eq-eqb p p refl) (sym here)) others
+
+  loaded-writes : (step : Step) → slot < facts.layout.cpus → (g : ℕ) → IsPlace facts.layout g → (v : Stamped Loaded)
+      → v.writer ≤ begun_in role h
+      → written_by p v ≡ noted facts.layout (record { number = slot }) g (record { caller = p; step = step } ∷ own h p)
+      → ((n : ℕ) → nat_eq g n ≡ false
+      → noted facts.layout (record { number = slot }) n (record { caller = p; step = step } ∷ own h p)
+      ≡ noted facts.layout (record { number = slot }) n (own h p))
+      → KeepsKnown facts.layout.cpus (place_count facts.layout) unloaded (noted facts.layout)
+      (record { caller = p; step = step } ∷ h) held (with_cell r.loaded slot g v)
+  loaded-writes step below g g_in v writer here others =
+      KeepsKnown-writes facts (place_count facts.layout) unloaded (noted facts.layout) h held r.loaded keeps.loaded slot
+      p stands step below g g_in v writer here others
+
+  -- the same where the group is one of the own CPU
   find : (step : Step) (c : CpuId) (j : ℕ) (values : List ℤ) → IsGroup facts.layout j
       → (nat_eq c.number slot ≡ true → slot < facts.layout.cpus)
       → (nat_eq c.number slot ≡ true
@@ -93,10 +123,7 @@ module _ (facts : Facts) (h : History) (held : ℕ → ℕ) (slot p : ℕ)
           → KeepsKnown facts.layout.cpus (group_count facts.layout) unfound found
           (record { caller = p; step = step } ∷ h) held
           (if b then with_cell r.found slot j (record { writer = p; value = values }) else r.found)
-      by true same =
-          KeepsKnown-writes facts (group_count facts.layout) unfound found h held r.found keeps.found slot p stands step
-          (below same) j j_in (record { writer = p; value = values }) (number-begun facts h held slot p stands)
-          (rw (eq-eqb p p refl) (sym (here same))) (others same)
+      by true same = found-writes step (below same) j j_in values (here same) (others same)
       by false other = found-same step (not_own other)
 
   pub load-keeps : (g : PlaceId) (t a : ℕ) → slot < facts.layout.cpus → IsPlace facts.layout g.number
@@ -105,8 +132,7 @@ module _ (facts : Facts) (h : History) (held : ℕ → ℕ) (slot p : ℕ)
       })
   load-keeps g t a below g_in = record {
     found = found-same (LoadT g t a) (λ j. refl);
-    loaded = KeepsKnown-writes facts (place_count facts.layout) unloaded (noted facts.layout) h held r.loaded
-        keeps.loaded slot p stands (LoadT g t a) below g.number g_in (record { writer = p; value = loading t a })
+    loaded = loaded-writes (LoadT g t a) below g.number g_in (record { writer = p; value = loading t a })
         (number-begun facts h held slot p stands) (rw (eq-eqb p p refl, eq-eqb g.number g.number refl) refl)
         (λ n other. rw other refl);
     carried = carried-same (LoadT g t a) (λ k. refl) (λ i. refl);
@@ -153,24 +179,18 @@ module _ (facts : Facts) (h : History) (held : ℕ → ℕ) (slot p : ℕ)
       → KeepsPassNotes facts (record { caller = p; step = Put k w t delta how } ∷ h) held next
   put-keeps k w t delta how next below k_in founds loads carries =
       let step = Put k w t delta how in
+      let layout = is_layout facts h held slot p stands r keeps in
       let j = group_of k.number in
       let g = place_of facts.layout k.number in
-      let g_in : IsPlace facts.layout g =
-      place_of-lt facts.layout (is_layout facts h held slot p stands r keeps) k.number k_in in
+      let g_in : IsPlace facts.layout g = place_of-lt facts.layout layout k.number k_in in
       record {
-        found = rw founds (KeepsKnown-writes facts (group_count facts.layout) unfound found h held r.found keeps.found slot
-            p stands step below j (group_of-lt facts.layout (is_layout facts h held slot p stands r keeps) k.number k_in)
-            (record {
-              writer = p;
-              value = slice_set w.values (k.number % 8) (differential_after how t (entry w.values k.number) delta);
-            }) (number-begun facts h held slot p stands) (rw (eq-eqb p p refl, eq-eqb j j refl) refl)
-            (λ i other. rw other refl));
-        loaded = rw loads (KeepsKnown-writes facts (place_count facts.layout) unloaded (noted facts.layout) h held r.loaded
-            keeps.loaded slot p stands step below g g_in (putting (at r.loaded slot g unloaded))
+        found = rw founds (found-writes step below j (group_of-lt facts.layout layout k.number k_in)
+            (slice_set w.values (k.number % 8) (differential_after how t (entry w.values k.number) delta))
+            (rw (eq-eqb j j refl) refl) (λ i other. rw other refl));
+        loaded = rw loads (loaded-writes step below g g_in (putting (at r.loaded slot g unloaded))
             (keeps.loaded.writers slot g below g_in)
             (noted-put facts.layout p own_cpu (own h p) k w t delta how (at r.loaded slot g unloaded)
-            (known-here facts (place_count facts.layout) unloaded (noted facts.layout) h held r.loaded keeps.loaded slot p
-            stands below g g_in))
+            (noted-here facts h held slot p stands r keeps below g g_in))
             (λ n other. rw other refl));
         carried = KeepsAmounts-goes_on facts h held slot p stands r.carried keeps.carried step next.carried carries;
       }
@@ -197,9 +217,6 @@ module _ (facts : Facts) (h : History) (held : ℕ → ℕ) (slot p : ℕ)
       below : nat_eq c.number slot ≡ true → slot < facts.layout.cpus
       below same = let is = eqb-true c.number slot same in omega arith
 
-      g : ℕ
-      g = place_of facts.layout (first_of_group j.number)
-
       g_in : IsPlace facts.layout (place_of facts.layout (first_of_group j.number))
       g_in =
           let first : first_of_group j.number + 0 ≡ first_of_group j.number = omega arith in
@@ -211,15 +228,12 @@ module _ (facts : Facts) (h : History) (held : ℕ → ℕ) (slot p : ℕ)
           (record { caller = p; step = Take c j w } ∷ h) held
           (if b then with_taken facts.layout slot j.number r.loaded else r.loaded)
       by true same =
-          KeepsKnown-writes facts (place_count facts.layout) unloaded (noted facts.layout) h held r.loaded keeps.loaded slot
-          p stands (Take c j w) (below same) (place_of facts.layout (first_of_group j.number)) g_in
-          (taking_of facts.layout j.number
-          (at r.loaded slot (place_of facts.layout (first_of_group j.number)) unloaded))
-          (keeps.loaded.writers slot (place_of facts.layout (first_of_group j.number)) (below same) g_in)
-          (noted-take facts.layout p own_cpu (own h p) c j w same
-          (at r.loaded slot (place_of facts.layout (first_of_group j.number)) unloaded)
-          (known-here facts (place_count facts.layout) unloaded (noted facts.layout) h held r.loaded keeps.loaded slot p
-          stands (below same) (place_of facts.layout (first_of_group j.number)) g_in))
+          let place = place_of facts.layout (first_of_group j.number) in
+          let cell = at r.loaded slot place unloaded in
+          loaded-writes (Take c j w) (below same) place g_in (taking_of facts.layout j.number cell)
+          (keeps.loaded.writers slot place (below same) g_in)
+          (noted-take facts.layout p own_cpu (own h p) c j w same cell
+          (noted-here facts h held slot p stands r keeps (below same) place g_in))
           (λ n other. noted-take_other facts.layout p own_cpu (own h p) c j w same layout n other)
       by false other = loaded-same (Take c j w) (λ n. rw other refl)
 

@@ -1,10 +1,7 @@
 -- What the passes in their slots carry, and what a step makes of it.
-use Rattle.std.specs.Prelude.{◌≡◌, ℕ, ◌+◌, ◌%◌, ◌<◌, ◌^◌, ◌&&◌, ℤ, pos, ◌+ℤ◌, List, nat_eq, nat_lt, if◌then◌else◌}
-use Rattle.std.specs.Prelude.{slice_index_or, unsigned_abs}
-use Rattle.vms_history.specs.Common.{IsCounter, IsItem, Shape, counter_count, first_of_group, group_of, item_count}
-use Rattle.vms_history.specs.Common.{item_of, sum_below}
+use Rattle.std.specs.Prelude.{◌≡◌, ℕ, ◌+◌, ◌<◌, ◌^◌, ℤ, pos, ◌+ℤ◌, nat_eq, if◌then◌else◌, unsigned_abs}
+use Rattle.vms_history.specs.Common.{IsCounter, IsItem, Shape, counter_count, item_count}
 use Rattle.vms_cells.specs.Cells.{HasCells, at}
-use Rattle.vms_core.specs.Common.{entry}
 use Rattle.vms_page_passes.specs.declared.amounts.Amounts.{Amounts}
 
 -- there is an amount for each slot and counter, and for each slot and item
@@ -24,11 +21,3 @@ pub record Carries (shape : Shape) (slot : ℕ) (counters items : ℕ → ℤ) (
 pub record HasRoom (shape : Shape) (slot : ℕ) (amounts : Amounts) : Type 0 where
   pub by_counter : (k : ℕ) → IsCounter shape k → unsigned_abs (at amounts.by_counter slot k (pos 0)) < 2 ^ 62
   pub by_item : (i : ℕ) → IsItem shape i → unsigned_abs (at amounts.by_item slot i (pos 0)) < 2 ^ 62
-
--- what a take of a group moves by the first n entries of its list, for a counter and for an item
-abbrev pub counters_first : ℕ → List ℤ → ℕ → ℕ → ℤ
-counters_first j values n k = if nat_eq j (group_of k) && nat_lt (k % 8) n then entry values k else pos 0
-
-abbrev pub items_first : Shape → ℕ → List ℤ → ℕ → ℕ → ℤ
-items_first shape j values n i =
-    sum_below (λ m. if nat_eq (item_of shape (first_of_group j + m)) i then slice_index_or values m (pos 0) else pos 0) n

@@ -1,31 +1,20 @@
 -- What is kept of a history of the passes in their slots.
 use Rattle.std.specs.Prelude.{◌≡◌, ℕ, ◌≤◌, ℤ, pos, List}
-use Rattle.vms_history.specs.Common.{IsCounter, IsItem, IsLayout, Shape, first_of_group, group_count}
-use Rattle.vms_history.specs.Common.{place_count, place_of}
+use Rattle.vms_history.specs.Common.{IsCounter, IsItem, IsLayout, Shape, group_count, place_count}
 use Rattle.vms_cells.specs.declared.stamps.Stamped.{Stamped}
-use Rattle.vms_cells.specs.Cells.{Cells, HasCells, at, with_cell}
+use Rattle.vms_cells.specs.Cells.{HasCells, at}
 use Rattle.vms_core.specs.declared.steps.Facts.{Facts}
 use Rattle.vms_core.specs.Common.{History, carried, carried_of_item, eight_zeros, found}
 use Rattle.vms_registers.specs.Slots.{held_events}
 use Rattle.vms_page_passes.specs.declared.amounts.Amounts.{Amounts}
-use Rattle.vms_page_passes.specs.declared.notes.Loaded.{Loaded}
 use Rattle.vms_page_passes.specs.declared.passes.PagePasses.{PagePasses}
 use Rattle.vms_page_passes.specs.Amounts.{HasAmounts}
 use Rattle.vms_page_passes.specs.Known.{KeepsKnown}
-use Rattle.vms_page_passes.specs.Notes.{loading, noted, taking_of}
+use Rattle.vms_page_passes.specs.Notes.{noted, unloaded}
 
--- cells that no pass has written
+-- a list that no pass has written
 abbrev pub unfound : Stamped (List ℤ)
 unfound = record { writer = 0; value = eight_zeros }
-
-abbrev pub unloaded : Stamped Loaded
-unloaded = record { writer = 0; value = loading 0 0 }
-
--- the notes of a CPU's places after a take of one of its groups
-abbrev pub with_taken : Shape → ℕ → ℕ → Cells (Stamped Loaded) → Cells (Stamped Loaded)
-with_taken shape slot j cells =
-    let g = place_of shape (first_of_group j) in
-    with_cell cells slot g (taking_of shape j (at cells slot g unloaded))
 
 -- what the pass in each slot carries for each counter and each item
 pub record KeepsAmounts (facts : Facts) (h : History) (held : ℕ → ℕ) (amounts : Amounts) : Type 0 where

@@ -9,7 +9,8 @@ ghost use Rattle.vms_core.specs.Common.{CarriesNothing, History, pages};
 ghost use Rattle.vms_core.specs.Conditions.{Acknowledges, AddsToPlace, AddsToSystem};
 ghost use Rattle.vms_registers.specs.Slots.{StandsIn};
 ghost use Rattle.vms_page_passes.specs.Conditions.{KnowsForMiss, KnowsForPut, MayBeAcknowledged};
-ghost use Rattle.vms_page_passes.specs.Keeps.{KeepsPassNotes, unfound, unloaded};
+ghost use Rattle.vms_page_passes.specs.Keeps.{KeepsPassNotes, unfound};
+ghost use Rattle.vms_page_passes.specs.Notes.{unloaded};
 
 use crate::PagePasses;
 use crate::notes::Loaded;

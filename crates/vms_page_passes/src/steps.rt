@@ -7,9 +7,8 @@ ghost use Rattle.vms_cells.specs.Cells.{HasCells, at, with_cell};
 ghost use Rattle.vms_core.specs.Common.{History, eight_zeros, entries_of, entry, pages};
 ghost use Rattle.vms_registers.specs.Slots.{MayWork};
 ghost use Rattle.vms_page_passes.specs.Amounts.{Carries, HasRoom};
-ghost use Rattle.vms_page_passes.specs.Keeps.{IsKept, KeepsPassNotes, unloaded};
-ghost use Rattle.vms_page_passes.specs.Notes.{loading, putting};
-ghost use Rattle.vms_page_passes.specs.Keeps.{with_taken};
+ghost use Rattle.vms_page_passes.specs.Keeps.{IsKept, KeepsPassNotes};
+ghost use Rattle.vms_page_passes.specs.Notes.{loading, putting, unloaded, with_taken};
 
 use crate::PagePasses;
 use crate::changes::{Changed, change};
@@ -59,9 +58,7 @@ impl PagePasses {
             Step::Join(_) => {}
         }
     }
-}
 
-impl PagePasses {
     /// The pass in a slot loaded the own threshold of a place.
     fn load(&mut self, slot: u32, pass: u64, place: PlaceId, t: u32, number: u32)
         requires slot { slot < self.old.loaded.rows }
@@ -136,7 +133,8 @@ impl PagePasses {
         requires slot { slot < self.old.loaded.rows }
         requires place { place.number < self.old.loaded.width }
         ensures { self.new ≡ record self.old {
-          loaded = with_cell self.old.loaded slot place.number (putting (at self.old.loaded slot place.number unloaded));
+          loaded = with_cell self.old.loaded slot place.number
+              (putting (at self.old.loaded slot place.number unloaded));
         } }
     {
         let mut cell = self.loaded.get(slot as usize, place.number as usize);

@@ -1,4 +1,5 @@
-use Rattle.vms_page_passes.specs.Amounts.{Carries, counters_first, items_first}
+use Rattle.vms_page_passes.specs.Amounts.{Carries}
+use Rattle.vms_page_passes.proofs.AmountSteps.{counters_first, items_first}
 use Rattle.vms_page_passes.proofs.amounts.Amounts.carry_group.Given as goal
 
 abbrev pub invariant-loop-n : goal.invariant-loop-n

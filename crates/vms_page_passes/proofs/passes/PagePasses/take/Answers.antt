@@ -41,8 +41,8 @@ put-requires-clause-item_room c =
     let layout = is_layout facts c.requires.0 c.requires.1 c.args.slot c.args.pass may.stands c.args.self.now
     c.requires.3 in
     let none : at c.args.self.now.carried.by_item c.args.slot i (pos 0) ≡ pos 0 =
-    carried_of_item-here facts c.requires.0 c.requires.1 c.args.slot c.args.pass may.stands c.args.self.now c.requires.3 i
-    (item_of-lt facts.layout layout c.in-Put.counter.number)
+    carried_of_item-here facts c.requires.0 c.requires.1 c.args.slot c.args.pass may.stands c.args.self.now
+    c.requires.3 i (item_of-lt facts.layout layout c.in-Put.counter.number)
     ∙ meets.nothing_carried.items i in
     rw none (omega (arith, ints, c.change-changed.ensures.bound))
 
