@@ -1,10 +1,9 @@
 -- A table in which passes keep what they know by their own events, before a step of the pass in a slot and after it.
 use Rattle.std.proofs.Common.{◌≡◌, ◌≢◌, ℕ, ◌<◌, ◌≤◌, Bool, true, false, List, ◌∷◌, Option, refl, sym, ap, ◌∙◌, subst}
 use Rattle.std.proofs.Common.{if◌then◌else◌, nat_eq, eq-eqb, eqb-true, ◌&&◌}
-use Rattle.vms_history.specs.Common.{CpuId, begun_in}
+use Rattle.vms_history.specs.Common.{CpuId, begun_in, begun, own}
 use Rattle.vms_history.specs.declared.events.Event.{Event}
 use Rattle.vms_history.proofs.Common.{own-others}
-use Rattle.vms_history.specs.Common.{begun, own}
 use Rattle.vms_cells.specs.declared.stamps.Stamped.{Stamped}
 use Rattle.vms_cells.specs.Cells.{Cells, HasCells, at, with_cell}
 use Rattle.vms_cells.specs.Stamps.{written_by}

@@ -1,7 +1,7 @@
 -- What a step makes of what its pass notes of a place.
-use Rattle.std.proofs.Common.{◌≡◌, ℕ, ◌||◌, Bool, true, false, List, ◌∷◌, Option, Some, None, refl, sym, ap}
-use Rattle.std.proofs.Common.{◌∙◌, if◌then◌else◌, nat_eq, eq-eqb, ne_eqb}
-use Rattle.std.specs.Prelude.{option_map}
+use Rattle.std.proofs.Common.{◌≡◌, ℕ, ◌||◌, Bool, true, false, List, ◌∷◌, Option, Some, None, refl, sym, ap, ◌∙◌}
+use Rattle.std.proofs.Common.{if◌then◌else◌, nat_eq, eq-eqb, ne_eqb}
+use Rattle.std.specs.Prelude.{option_map, ℤ}
 use Rattle.std.proofs.lemmas.Bool.{eqb-false}
 use Rattle.vms_history.specs.Common.{CounterId, CpuId, Diffs, GroupId, IsLayout, Mode, Shape, first_of_group, place_of}
 use Rattle.vms_history.specs.declared.events.Event.{Event}
@@ -14,7 +14,6 @@ use Rattle.vms_core.specs.Common.{has_put, loaded, took}
 use Rattle.vms_page_passes.specs.declared.notes.Loaded.{Loaded}
 use Rattle.vms_page_passes.specs.Notes.{first_group, last_group, noted, putting, taking, taking_of}
 use Rattle.vms_page_passes.proofs.Places.{first_group-place, last_group-place}
-use Rattle.std.specs.Prelude.{ℤ}
 
 -- a value that its writer changes is found so by the writer alone
 changed-written_by : {X : Type 0} (p : ℕ) (change : X → X) (cell : Stamped X)

@@ -1,6 +1,5 @@
 -- What is kept of a history without events.
-use Rattle.std.proofs.Common.{◌≡◌, ℕ, ◌+◌, List, [], Option, None, pos, refl, sym, arith, nat_eq}
-use Rattle.std.proofs.Common.{ne_eqb, false}
+use Rattle.std.proofs.Common.{◌≡◌, ℕ, ◌+◌, List, [], Option, None, pos, refl, sym, arith, nat_eq, ne_eqb, false}
 use Rattle.vms_history.specs.Common.{CpuId, counter_count, group_count, item_count, place_count}
 use Rattle.vms_history.specs.declared.events.Event.{Event}
 use Rattle.vms_history.proofs.Common.{if-either}

@@ -28,8 +28,8 @@ use Rattle.vms_page_passes.specs.Keeps.{IsKept, KeepsPassNotes, unfound}
 use Rattle.vms_page_passes.specs.Notes.{first_group, last_group, noted, unloaded}
 use Rattle.vms_page_passes.proofs.CarriedBeyond.{carried-beyond, carried_of_item-beyond}
 use Rattle.vms_page_passes.proofs.KnownSteps.{known-here}
-use Rattle.vms_page_passes.proofs.Places.{first_group-known, first_group-place, group-first_or_last}
-use Rattle.vms_page_passes.proofs.Places.{last_group-known, last_group-place}
+use Rattle.vms_page_passes.proofs.Places.{first_group-known, first_group-place, group-first_or_last, last_group-known}
+use Rattle.vms_page_passes.proofs.Places.{last_group-place}
 use Rattle.vms_page_passes.proofs.Slots.{owns-slot, slot-owned}
 
 -- a note tells what was loaded and done since

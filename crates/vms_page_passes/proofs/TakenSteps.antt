@@ -12,9 +12,8 @@ use Rattle.vms_cells.specs.Stamps.{written_by}
 use Rattle.vms_core.specs.declared.steps.Facts.{Facts}
 use Rattle.vms_core.specs.declared.steps.Step.{Step}
 use Rattle.vms_core.specs.declared.steps.Step.TheVariants.{AddG, AddS, LoadD, LoadT, Miss, Put, Take}
-use Rattle.vms_core.specs.Conditions.{AddsToPlace, AddsToSystem}
-use Rattle.vms_core.specs.Common.{History, carried_by, differential_after, eight_zeros, entries_of, entry, found, moved}
-use Rattle.vms_core.specs.Common.{moved_of_item, pages, role}
+use Rattle.vms_core.specs.Common.{AddsToPlace, AddsToSystem, History, carried_by, differential_after, eight_zeros}
+use Rattle.vms_core.specs.Common.{entries_of, entry, found, moved, moved_of_item, pages, role}
 use Rattle.vms_registers.specs.Slots.{StandsIn}
 use Rattle.vms_page_passes.specs.declared.amounts.Amounts.{Amounts}
 use Rattle.vms_page_passes.specs.declared.notes.Loaded.{Loaded}

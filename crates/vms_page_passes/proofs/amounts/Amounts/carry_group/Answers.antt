@@ -1,6 +1,6 @@
 -- Each turn adds one entry, whose counter and item have room for it.
-use Rattle.std.proofs.Common.{◌≡◌, ℕ, suc, ◌+◌, ◌<◌, ◌≤◌, pos, unsigned_abs, get_or, refl, to_z, of_z}
-use Rattle.std.proofs.Common.{w64, rules, arith, eq-eqb, nat_eq, true}
+use Rattle.std.proofs.Common.{◌≡◌, ℕ, suc, ◌+◌, ◌<◌, ◌≤◌, pos, unsigned_abs, get_or, refl, to_z, of_z, w64, rules}
+use Rattle.std.proofs.Common.{arith, eq-eqb, nat_eq, true}
 use Rattle.std.proofs.lemmas.Int.{ints}
 use Rattle.vms_history.specs.Common.{AreBytes, IsItem, item_of, first_of_group}
 use Rattle.vms_base.proofs.Common.{group_count-most, item_of-lt}
