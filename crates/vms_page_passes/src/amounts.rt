@@ -12,7 +12,7 @@ pub struct Amounts {
 }
 
 impl Amounts {
-    ghost use Rattle.std.specs.Prelude.{◌≡◌, ◌↔◌, ◌+◌, ◌<◌, ◌≤◌, ◌^◌, ℕ, ℤ, pos, neg_ℤ, ◌+ℤ◌, unsigned_abs, nat_eq};
+    ghost use Rattle.std.specs.Prelude.{◌≡◌, ◌↔◌, ◌+◌, ◌<◌, ◌≤◌, ◌^◌, pos, neg_ℤ, ◌+ℤ◌, unsigned_abs, nat_eq};
     ghost use Rattle.std.specs.Prelude.{if◌then◌else◌, IfOk, IsTrue};
     ghost use Rattle.vms_history.specs.Common.{IsCounter, IsGroup, IsItem, IsLayout, counter_count, group_of};
     ghost use Rattle.vms_history.specs.Common.{item_count, item_of};

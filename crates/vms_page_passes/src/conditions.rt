@@ -1,11 +1,11 @@
 //! Whether what the pass in a slot did so far lets it make a step.
 
-ghost use Rattle.std.specs.Prelude.{◌≡◌, ◌≢◌, ◌↔◌, ◌<◌, ◌≤◌, ℕ, true, IsTrue, Some};
-ghost use Rattle.vms_history.specs.Common.{IsGroup, IsPlace, own};
+ghost use Rattle.std.specs.Prelude.{◌≡◌, ◌↔◌, ◌<◌, ℕ, IsTrue, Some};
+ghost use Rattle.vms_history.specs.Common.{own};
 ghost use Rattle.vms_cells.specs.Cells.{at};
 ghost use Rattle.vms_cells.specs.Stamps.{written_by};
 ghost use Rattle.vms_core.specs.declared.steps.Facts.{Facts};
-ghost use Rattle.vms_core.specs.Common.{CarriesNothing, History, pages, Acknowledges, AddsToPlace, AddsToSystem};
+ghost use Rattle.vms_core.specs.Common.{Acknowledges, AddsToPlace, AddsToSystem, CarriesNothing, History, pages};
 ghost use Rattle.vms_registers.specs.Slots.{StandsIn};
 ghost use Rattle.vms_page_passes.specs.Conditions.{KnowsForMiss, KnowsForPut, MayBeAcknowledged};
 ghost use Rattle.vms_page_passes.specs.Keeps.{KeepsPassNotes, unfound};
