@@ -1,0 +1,6 @@
+mod BoundedHistories
+mod RisingTimes
+mod EnoughRoom
+mod ShownConditions
+mod ShownSteps
+mod Bounds

@@ -1,0 +1,4 @@
+pub mod Rises
+pub mod Bounded
+pub mod Keeps
+pub mod PassesKept
