@@ -17,8 +17,8 @@ use Rattle.vms_group_registers.specs.declared.registers.GroupRegisters.{GroupReg
 use Rattle.vms_group_registers.specs.Bounded.{bounded_groups, risen}
 use Rattle.vms_group_registers.specs.Keeps.{IsKept, KeepsGroups}
 use Rattle.vms_group_registers.specs.Rises.{times_rising}
-use Rattle.vms_group_registers.proofs.ShownConditions.{adds_up, adds_value, carried-here, changes, finds_pending, finds_up}
-use Rattle.vms_group_registers.proofs.ShownConditions.{legal-here}
+use Rattle.vms_group_registers.proofs.ShownConditions.{adds_up, adds_value, carried-here, changes, finds_pending}
+use Rattle.vms_group_registers.proofs.ShownConditions.{finds_up, legal-here}
 
 -- the pending word of a CPU for a group stands in the list
 pub pending-stands : (facts : BoundedFacts) (r : GroupRegisters) (c g : ℕ) → IsKept facts r

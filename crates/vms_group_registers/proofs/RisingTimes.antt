@@ -1,7 +1,7 @@
 -- How often an amount rises: in the table, when one is added and when one is dropped, and in a list.
 use Rattle.std.proofs.Common.{◌≡◌, ◌≢◌, ℕ, zero, suc, ◌+◌, ◌-◌, ◌<◌, ◌≤◌, ◌&&◌, Bool, true, false, List, [], ◌∷◌}
-use Rattle.std.proofs.Common.{length, get_or, Option, Some, None, is_some, Contains, ℤ, pos, refl, sym, ap, ◌∙◌, arith, nat_eq}
-use Rattle.std.proofs.Common.{if◌then◌else◌, eq-eqb, eqb-true, ne_eqb, inl, inr}
+use Rattle.std.proofs.Common.{length, get_or, Option, Some, None, is_some, Contains, ℤ, pos, refl, sym, ap, ◌∙◌, arith}
+use Rattle.std.proofs.Common.{nat_eq, if◌then◌else◌, eq-eqb, eqb-true, ne_eqb, inl, inr}
 use Rattle.std.proofs.Math.ListN.{set, length-set}
 use Rattle.std.specs.Prelude.{◌↔◌, IsTrue, MatchOption}
 use Rattle.std.specs.Ordering.{int_eq}
@@ -14,7 +14,8 @@ use Rattle.vms_history.proofs.Common.{sum_below-changed}
 use Rattle.vms_group_core.specs.Common.{is_parent, without}
 use Rattle.vms_group_registers.specs.declared.rises.Rise.{Rise}
 use Rattle.vms_group_registers.specs.declared.rises.Rises.{Rises}
-use Rattle.vms_group_registers.specs.Rises.{IsRise, added, blank, dropped, is_rise, rise_at, times, times_rising, with_risen}
+use Rattle.vms_group_registers.specs.Rises.{IsRise, added, blank, dropped, is_rise, rise_at, times, times_rising}
+use Rattle.vms_group_registers.specs.Rises.{with_risen}
 
 -- the test tells
 is_rise-true : (s g : ℕ) (a : ℤ) (rise : Rise) → is_rise s g a rise ≡ true → IsRise s g a rise

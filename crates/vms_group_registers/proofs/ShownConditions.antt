@@ -8,9 +8,9 @@ use Rattle.vms_history.proofs.Common.{base_can_begin}
 use Rattle.vms_cells.specs.Cells.{at}
 use Rattle.vms_cells.specs.Tallies.{IsEmptyRow}
 use Rattle.vms_group_core.specs.declared.states.GroupState.{GroupState}
-use Rattle.vms_group_core.specs.Common.{AddsToValue, AddsUp, CarriesNothing, Changes, FindsValue, History, IsGroup, IsLegal, IsTreeCpu}
-use Rattle.vms_group_core.specs.Common.{TakesPending, TakesUp, carried, carried_up, groups, parent_of, pending_at, role}
-use Rattle.vms_group_core.specs.Common.{spent, up_at, value_at}
+use Rattle.vms_group_core.specs.Common.{AddsToValue, AddsUp, CarriesNothing, Changes, FindsValue, History, IsGroup}
+use Rattle.vms_group_core.specs.Common.{IsLegal, IsTreeCpu, TakesPending, TakesUp, carried, carried_up, groups}
+use Rattle.vms_group_core.specs.Common.{parent_of, pending_at, role, spent, up_at, value_at}
 use Rattle.vms_group_core.proofs.Common.{HasShape-state_after}
 use Rattle.vms_registers.specs.Slots.{StandsIn, owner_of}
 use Rattle.vms_registers.proofs.HeldEvents.{held_events-here}
@@ -21,8 +21,7 @@ use Rattle.vms_group_registers.specs.Bounded.{bounded_groups, rising_in, risen}
 use Rattle.vms_group_registers.specs.Keeps.{IsKept, KeepsGroups}
 use Rattle.vms_group_registers.specs.Rises.{rise_at, times, times_rising}
 use Rattle.vms_group_registers.proofs.BoundedHistories.{legal-of, state-same}
-use Rattle.vms_group_registers.proofs.RisingTimes.{contains-times, none-empty, times-contains, times-none}
-use Rattle.vms_group_registers.proofs.RisingTimes.{times-some}
+use Rattle.vms_group_registers.proofs.RisingTimes.{contains-times, none-empty, times-contains, times-none, times-some}
 
 -- a slot below the number of CPUs is that of a CPU
 module _ (cpus slot : ℕ) (slot_in : slot ≤ cpus) where

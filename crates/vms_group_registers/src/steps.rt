@@ -2,8 +2,8 @@
 
 ghost use Rattle.std.specs.Prelude.{◌≡◌, ◌<◌, ◌+◌, ◌-◌, ◌≤◌, ◌^◌, ℕ, pos, ◌+ℤ◌, unsigned_abs};
 ghost use Rattle.vms_cells.specs.Cells.{at, with_cell};
-ghost use Rattle.vms_group_core.specs.Common.{IsGroup, IsTreeCpu, parent_of, pending_at, up_at, value_at};
-ghost use Rattle.vms_group_core.specs.Common.{with_pending, with_up, with_value};
+ghost use Rattle.vms_group_core.specs.Common.{IsGroup, IsTreeCpu, parent_of, pending_at, up_at, value_at, with_pending};
+ghost use Rattle.vms_group_core.specs.Common.{with_up, with_value};
 ghost use Rattle.vms_group_registers.specs.Bounded.{risen};
 ghost use Rattle.vms_group_registers.specs.Keeps.{IsKept};
 ghost use Rattle.vms_group_registers.specs.Rises.{IsRise, dropped, rise_at, times_rising, with_risen};

@@ -1,7 +1,7 @@
 -- What each kind of step makes of the peaks is what the longer history has.
-use Rattle.std.proofs.Common.{◌≡◌, ◌≢◌, ℕ, ◌+◌, ◌<◌, ◌≤◌, ◌&&◌, Bool, true, false, List, ◌∷◌, Option, Some, None, ℤ}
-use Rattle.std.proofs.Common.{ap, arith, eq-eqb, eqb-true, get_or, if◌then◌else◌, length, max, nat_eq, ne_eqb, refl}
-use Rattle.std.proofs.Common.{sym, ◌∙◌, ⊎_elim, unsigned_abs, inl, inr}
+use Rattle.std.proofs.Common.{◌≡◌, ◌≢◌, ℕ, ◌+◌, ◌<◌, ◌≤◌, ◌&&◌, Bool, true, false, List, ◌∷◌, Option, Some, None, ℤ, ap}
+use Rattle.std.proofs.Common.{arith, eq-eqb, eqb-true, get_or, if◌then◌else◌, length, max, nat_eq, ne_eqb, refl, sym}
+use Rattle.std.proofs.Common.{◌∙◌, ⊎_elim, unsigned_abs, inl, inr}
 use Rattle.std.proofs.lemmas.Bool.{cases_eq, cases_lt}
 use Rattle.vms_history.specs.Common.{CounterId, CpuId, CpuState, Dead, Diffs, IsCounter, IsCpu, IsZone, Mode, Online}
 use Rattle.vms_history.specs.Common.{PlaceId, counter_count, owner_in}

@@ -1,6 +1,6 @@
 -- What a step that changes one peak, or none, makes of what the CPUs may hide of a zone together.
-use Rattle.std.proofs.Common.{◌≡◌, ◌≢◌, ℕ, ◌+◌, ◌≤◌, ◌&&◌, Bool, true, false, ◌∷◌, Option, ap, arith, eq-eqb}
-use Rattle.std.proofs.Common.{eqb-true, if◌then◌else◌, length, max, nat_eq, ne_eqb, refl, sym, ◌∙◌}
+use Rattle.std.proofs.Common.{◌≡◌, ◌≢◌, ℕ, ◌+◌, ◌≤◌, ◌&&◌, Bool, true, false, ◌∷◌, Option, ap, arith, eq-eqb, eqb-true}
+use Rattle.std.proofs.Common.{if◌then◌else◌, length, max, nat_eq, ne_eqb, refl, sym, ◌∙◌}
 use Rattle.vms_history.specs.Common.{CpuId, IsCpu, IsZone, PlaceId}
 use Rattle.vms_history.proofs.Common.{count_below-same}
 use Rattle.vms_core.specs.declared.steps.Facts.{Facts}

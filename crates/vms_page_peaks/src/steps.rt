@@ -6,8 +6,8 @@ use vms_cells::Grid;
 use vms_core::{Facts, Step};
 
 impl PagePeaks {
-    ghost use Rattle.std.specs.Prelude.{◌≡◌, ◌<◌, ◌≤◌, ◌+◌, ◌^◌, ◌∷◌, ℕ, length};
-    ghost use Rattle.std.specs.Prelude.{max, slice_index_or, true, false, unsigned_abs};
+    ghost use Rattle.std.specs.Prelude.{◌≡◌, ◌<◌, ◌≤◌, ◌+◌, ◌^◌, ◌∷◌, ℕ, length, max, slice_index_or, true, false};
+    ghost use Rattle.std.specs.Prelude.{unsigned_abs};
     ghost use Rattle.vms_history.specs.Common.{Online};
     ghost use Rattle.vms_cells.specs.Cells.{at, with_cell};
     ghost use Rattle.vms_core.specs.Common.{History, if_present, is_number, pages};

@@ -6,8 +6,8 @@ use Rattle.vms_base.proofs.Common.{group_of-lt}
 use Rattle.vms_core.specs.declared.states.State.{State}
 use Rattle.vms_core.specs.declared.steps.Facts.{Facts}
 use Rattle.vms_core.specs.declared.steps.Step.TheVariants.{SetT}
-use Rattle.vms_core.specs.Common.{FindsGroup, History, Puts, SetsThreshold, TellsGroup, cpu_at, eight_zeros}
-use Rattle.vms_core.specs.Common.{found, mark_at, pages, peak_sum, spent, state_after}
+use Rattle.vms_core.specs.Common.{FindsGroup, History, Puts, SetsThreshold, TellsGroup, cpu_at, eight_zeros, found}
+use Rattle.vms_core.specs.Common.{mark_at, pages, peak_sum, spent, state_after}
 use Rattle.vms_core.specs.Conditions.{Misses}
 use Rattle.vms_registers.specs.Slots.{StandsIn}
 use Rattle.vms_page_words.specs.Words.{state_of}

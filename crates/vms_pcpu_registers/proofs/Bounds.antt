@@ -8,8 +8,8 @@ use Rattle.vms_base.proofs.Common.{cell-lt}
 use Rattle.vms_cells.specs.Cells.{Cells, at}
 use Rattle.vms_pcpu_core.specs.declared.steps.PcpuFacts.{PcpuFacts}
 use Rattle.vms_pcpu_core.specs.declared.steps.PcpuStep.TheVariants.{AddL, TakeL, AddC}
-use Rattle.vms_pcpu_core.specs.Common.{History, IsLegal, IsPcpu, LockedState, batch_at}
-use Rattle.vms_pcpu_core.specs.Common.{count_at, counters_of, local_at, percpu, role, state_after}
+use Rattle.vms_pcpu_core.specs.Common.{History, IsLegal, IsPcpu, LockedState, batch_at, count_at, counters_of, local_at}
+use Rattle.vms_pcpu_core.specs.Common.{percpu, role, state_after}
 use Rattle.vms_pcpu_core.proofs.Common.{HasShape-state_after, count_at-effect, laws-kept}
 use Rattle.vms_registers.specs.Slots.{MayWork, owner_of}
 use Rattle.vms_registers.proofs.HeldEvents.{stands-lives}

@@ -9,9 +9,9 @@ use Rattle.vms_pcpu_core.specs.declared.steps.PcpuFacts.{PcpuFacts}
 use Rattle.vms_pcpu_core.specs.declared.steps.PcpuStep.{PcpuStep}
 use Rattle.vms_pcpu_core.specs.declared.steps.PcpuStep.TheVariants.{AddL, LoadL, LoadC, Won, Missed, TakeL, AddC}
 use Rattle.vms_pcpu_core.specs.declared.steps.PcpuStep.TheVariants.{Unlock}
-use Rattle.vms_pcpu_core.specs.Common.{History, IsPcpu, amount_of, carried, carried_after, count_at}
-use Rattle.vms_pcpu_core.specs.Common.{counters_of, effect, holds_lock, holds_lock_after, is_owned, local_at, percpu}
-use Rattle.vms_pcpu_core.specs.Common.{spent, spent_by, state_after, with_count, with_held, with_local}
+use Rattle.vms_pcpu_core.specs.Common.{History, IsPcpu, amount_of, carried, carried_after, count_at, counters_of}
+use Rattle.vms_pcpu_core.specs.Common.{effect, holds_lock, holds_lock_after, is_owned, local_at, percpu, spent}
+use Rattle.vms_pcpu_core.specs.Common.{spent_by, state_after, with_count, with_held, with_local}
 use Rattle.vms_registers.specs.Slots.{StandsIn, held_events, owner_of}
 use Rattle.vms_registers.proofs.HeldEvents.{held_events-works}
 use Rattle.vms_pcpu_registers.specs.declared.registers.PcpuRegisters.{PcpuRegisters}

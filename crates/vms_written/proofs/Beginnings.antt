@@ -1,15 +1,14 @@
 -- The first events of a written phase begin one.
 use Rattle.std.proofs.Common.{◌≡◌, ℕ, ◌≤◌, List, [], ◌∷◌, ◌++◌, refl, sym, ap, subst, ◌∙◌, append_assoc, arith}
-use Rattle.vms_world.specs.Common.{Header, ZoneSize, Event, begun_in, own, State, Act, Item, MakesActs}
-use Rattle.vms_world.specs.Common.{PageSteps, acts_of, facts_of, owner_in, pages, act as one_act}
+use Rattle.vms_world.specs.Common.{Header, ZoneSize, Event, begun_in, own, State, Act, Item, MakesActs, PageSteps}
+use Rattle.vms_world.specs.Common.{acts_of, facts_of, owner_in, pages, act as one_act}
 use Rattle.vms_world.specs.Lanes.MakesActs.{none as no_act}
 use Rattle.vms_core.specs.Pages.{History}
 use Rattle.vms_core.specs.Steps.{role}
 use Rattle.vms_history.proofs.Common.{after-append, begun_in-append, own-append, own-on_top, owner_in-append}
 use Rattle.vms_history.proofs.Common.{prefix_is_legal}
-use Rattle.vms_written.specs.OpenPhases.{BeginsWrittenPhase, GoesAlong}
+use Rattle.vms_written.specs.Common.{BeginsWrittenPhase, GoesAlong, IsWrittenPhase}
 use Rattle.vms_written.specs.OpenPhases.GoesAlong.{between, within}
-use Rattle.vms_written.specs.WrittenPhases.{IsWrittenPhase}
 use Rattle.vms_written.proofs.SplitSteps.{Compares, compares, splits}
 use Rattle.vms_written.proofs.SplitSteps.Compares.{longer, shorter}
 

@@ -8,7 +8,7 @@ use Rattle.vms_core.specs.Steps.{role}
 use Rattle.vms_file_order.specs.Common.{StandOnce, pass_of}
 use Rattle.vms_file_order.proofs.Common.{HasPlace-among, StandOnce-lanes, pass_of-lane_at}
 use Rattle.vms_file_order.proofs.LaneLists.{IsPlace}
-use Rattle.vms_written.specs.WrittenPhases.{HasPassEach, IsWrittenPhase}
+use Rattle.vms_written.specs.Common.{HasPassEach, IsWrittenPhase}
 
 module _ {K : Type 0} (role : K → Role) (lanes : List Lane) (once : StandOnce lanes) (h : List (Event K))
     (has : HasLanes role lanes h) where

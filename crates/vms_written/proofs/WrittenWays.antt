@@ -1,11 +1,11 @@
 -- The page events of a run are a written history of its segments.
 use Rattle.std.proofs.Common.{ℕ, List, [], ◌∷◌, map, ap, subst}
 use Rattle.vms_text.specs.declared.acts.Boundary.{Boundary}
-use Rattle.vms_text.specs.declared.acts.Boundary.TheVariants.{Offline, Online, Flush}
-use Rattle.vms_world.specs.Common.{Header, ZoneSize, Segment, Phase, Between, SegmentsLead, TableHistories, State}
-use Rattle.vms_world.specs.Boundaries.{Crosses}
+use Rattle.vms_world.specs.Common.{Offline, Flush, Header, ZoneSize, Segment, Phase, Between, SegmentsLead}
+use Rattle.vms_world.specs.Common.{TableHistories, State, Crosses}
+use Rattle.vms_text.specs.declared.acts.Boundary.TheVariants.{Online}
 use Rattle.vms_world.specs.declared.worlds.World.{World}
-use Rattle.vms_written.specs.WrittenRuns.{CrossesPages, LeadsThrough}
+use Rattle.vms_written.specs.Common.{CrossesPages, LeadsThrough}
 use Rattle.vms_written.proofs.WrittenLanes.{IsWrittenPhase-of_lanes}
 
 module _ (header : Header) (pressure normal : ZoneSize → ℕ → ℕ → Type 0) where

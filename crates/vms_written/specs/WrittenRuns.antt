@@ -1,13 +1,11 @@
 -- A whole written history: a list of page events for each phase of a text.
 use Rattle.std.specs.Prelude.{◌≡◌, ℕ, List, [], ◌∷◌}
-use Rattle.vms_calls.specs.Common.{Dead, Online as IsOnline}
+use Rattle.vms_base.specs.declared.kinds.CpuState.TheVariants.{Dead, Online as IsOnline}
 use Rattle.vms_text.specs.declared.acts.Boundary.{Boundary}
-use Rattle.vms_text.specs.declared.acts.Boundary.TheVariants.{Offline, Online, Flush}
-use Rattle.vms_world.specs.Common.{Header, ZoneSize, State, Segment, Phase, Between, facts_of, settled, with_cpu}
+use Rattle.vms_world.specs.Common.{Offline, Flush, Header, ZoneSize, State, Segment, Phase, Between, facts_of, settled}
+use Rattle.vms_world.specs.Common.{with_cpu, MayCross, flushed_pages, bare_pages, AreAnswers, count_online, refreshed}
+use Rattle.vms_text.specs.declared.acts.Boundary.TheVariants.{Online}
 use Rattle.vms_core.specs.Pages.{History, state_after}
-use Rattle.vms_world.specs.Boundaries.{MayCross, flushed_pages}
-use Rattle.vms_world.specs.FirstWorlds.{bare_pages}
-use Rattle.vms_world.specs.Refreshes.{AreAnswers, count_online, refreshed}
 use Rattle.vms_written.specs.WrittenPhases.{IsWrittenPhase}
 
 -- what a boundary line makes of the page counters, where a rule gives the zones their thresholds
