@@ -49,6 +49,6 @@ module _ (header : Header) (pressure normal : ZoneSize → ℕ → ℕ → Type 
       complete = complete;
       pass = pass_of (lanes_of header.layout items);
       passes = HasPassEach-of_lanes role (lanes_of header.layout items) (StandOnce-lanes header.layout items) h has;
-      lines = MakesActs-of_lane role (lanes_of header.layout items) (StandOnce-lanes header.layout items) h has (PageSteps header s pressure normal) items
-          lines;
+      lines = MakesActs-of_lane role (lanes_of header.layout items) (StandOnce-lanes header.layout items) h has
+          (PageSteps header s pressure normal) items lines;
     }

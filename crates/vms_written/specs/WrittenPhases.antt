@@ -17,8 +17,8 @@ pub record HasPassEach {K : Type 0} (role : K → Role) (lanes : List Lane) (h :
   pub among : (q : ℕ) → 1 ≤ q → q ≤ begun_in role h → is_among (lane q) lanes ≡ true
   pub numbered : (q : ℕ) → 1 ≤ q → q ≤ begun_in role h → pass (lane q) ≡ q
 
--- these page events are a phase of these lines from this state: they are legal, every pass has ended, and the own events
--- of each lane's pass are the steps of the lane's lines, in order
+-- these page events are a phase of these lines from this state: they are legal, every pass has ended, and the own
+-- events of each lane's pass are the steps of the lane's lines, in order
 pub record IsWrittenPhase (header : Header) (pressure normal : ZoneSize → ℕ → ℕ → Type 0) (s : State)
     (items : List Item) (h : History) : Type 0 where
   pub complete : IsComplete (facts_of header s) h
