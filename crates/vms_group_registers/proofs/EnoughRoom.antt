@@ -1,6 +1,6 @@
 -- The room that a list of events needs, and what a verdict where there is so much says of the events.
-use Rattle.std.proofs.Common.{◌≡◌, ℕ, ◌+◌, ◌≤◌, List, [], ◌∷◌, ◌++◌, Some, None, Option, sym, ap, subst, ◌∙◌, arith}
-use Rattle.std.proofs.Common.{take, drop, length, get_or, max, ◌<◌}
+use Rattle.std.proofs.Common.{◌≡◌, ℕ, ◌+◌, ◌≤◌, List, [], ◌∷◌, ◌++◌, sym, ap, subst, ◌∙◌, arith, take, drop, length}
+use Rattle.std.proofs.Common.{get_or, max, ◌<◌}
 use Rattle.std.specs.Prelude.{reverse}
 use Rattle.std.proofs.lemmas.List.{reverse-append, take-append-drop}
 use Rattle.vms_history.specs.declared.events.Event.{Event}
@@ -82,7 +82,8 @@ module _ (tree : Tree) (events : List (Event GroupStep)) (i : ℕ) (d : Event Gr
 
   pub more-least : (room : ℕ) → HadRoom tree room (reverse (take (i + 1) events)) → max most next ≤ room
   more-least room had =
-      let both : HadRoom tree room (get_or events i d ∷ reverse (take i events)) = subst (HadRoom tree room) parts had in
+      let both : HadRoom tree room (get_or events i d ∷ reverse (take i events)) =
+      subst (HadRoom tree room) parts had in
       let before = least room both.0 in
       let within_room : rising_in tree (reverse (take i events)) ≤ room = omega (arith, before, count_is, count_in) in
       let now = room-least tree room (reverse (take i events)) (get_or events i d).step both.1 within_room in

@@ -1,8 +1,7 @@
 -- How often an amount rises: in the table, when one is added and when one is dropped, and in a list.
-use Rattle.std.proofs.Common.{◌≡◌, ◌≢◌, ℕ, zero, suc, ◌+◌, ◌-◌, ◌<◌, ◌≤◌, ◌&&◌, Bool, true, false, List, [], ◌∷◌}
-use Rattle.std.proofs.Common.{length, get_or, Option, Some, None, is_some, Contains, ℤ, pos, refl, sym, ap, ◌∙◌, arith}
-use Rattle.std.proofs.Common.{nat_eq, if◌then◌else◌, eq-eqb, eqb-true, ne_eqb, inl, inr}
-use Rattle.std.proofs.Math.ListN.{set, length-set}
+use Rattle.std.proofs.Common.{◌≡◌, ℕ, zero, suc, ◌+◌, ◌-◌, ◌<◌, ◌≤◌, ◌&&◌, Bool, true, false, List, [], ◌∷◌, length}
+use Rattle.std.proofs.Common.{get_or, Option, Some, None, is_some, Contains, ℤ, pos, refl, sym, ap, ◌∙◌, arith, nat_eq}
+use Rattle.std.proofs.Common.{if◌then◌else◌, eq-eqb, eqb-true, ne_eqb, inl, inr}
 use Rattle.std.specs.Prelude.{◌↔◌, IsTrue, MatchOption}
 use Rattle.std.specs.Ordering.{int_eq}
 use Rattle.std.proofs.lemmas.Bool.{and_parts, cases_eq}

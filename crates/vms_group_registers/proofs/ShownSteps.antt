@@ -1,7 +1,7 @@
 -- What each kind of step makes of the registers is what the longer history shows.
-use Rattle.std.proofs.Common.{◌≡◌, ◌≢◌, ℕ, suc, ◌+◌, ◌-◌, ◌<◌, ◌≤◌, ◌&&◌, Bool, true, false, List, ◌∷◌, length, Option}
-use Rattle.std.proofs.Common.{Some, None, ℤ, pos, neg_ℤ, ◌+ℤ◌, unsigned_abs, refl, sym, ap, ◌∙◌, arith, nat_eq}
-use Rattle.std.proofs.Common.{if◌then◌else◌, eqb-true}
+use Rattle.std.proofs.Common.{◌≡◌, ℕ, ◌+◌, ◌-◌, ◌<◌, ◌≤◌, ◌&&◌, Bool, true, false, List, ◌∷◌, length, Option, Some}
+use Rattle.std.proofs.Common.{None, ℤ, pos, neg_ℤ, ◌+ℤ◌, unsigned_abs, refl, sym, ap, ◌∙◌, arith, nat_eq, if◌then◌else◌}
+use Rattle.std.proofs.Common.{eqb-true}
 use Rattle.std.proofs.Math.ListN.{length-set}
 use Rattle.std.proofs.lemmas.Bool.{eqb-false}
 use Rattle.std.proofs.lemmas.Int.{ints}
@@ -22,7 +22,7 @@ use Rattle.vms_group_registers.specs.declared.facts.BoundedFacts.{BoundedFacts}
 use Rattle.vms_group_registers.specs.declared.registers.GroupRegisters.{GroupRegisters}
 use Rattle.vms_group_registers.specs.declared.rises.Rise.{Rise}
 use Rattle.vms_group_registers.specs.declared.rises.Rises.{Rises}
-use Rattle.vms_group_registers.specs.Bounded.{bounded_groups, rising_after, rising_in, risen}
+use Rattle.vms_group_registers.specs.Bounded.{bounded_groups, rising_after, risen}
 use Rattle.vms_group_registers.specs.Keeps.{KeepsGroups}
 use Rattle.vms_group_registers.specs.Rises.{IsRise, blank, dropped, rise_at, times, times_rising, with_risen}
 use Rattle.vms_group_registers.proofs.RisingTimes.{times-fallen, times-risen}

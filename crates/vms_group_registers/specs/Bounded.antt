@@ -1,5 +1,5 @@
 -- Histories of a tree of groups in which no more than so many amounts rise at once.
-use Rattle.std.specs.Prelude.{◌≡◌, ◌≢◌, ℕ, suc, ◌-◌, ◌≤◌, List, [], ◌∷◌, Option, Some, None, refl}
+use Rattle.std.specs.Prelude.{◌≢◌, ℕ, suc, ◌-◌, ◌≤◌, List, [], ◌∷◌, Option, Some, None, refl}
 use Rattle.vms_history.specs.Common.{IsQuiet, Machine, Works}
 use Rattle.vms_history.specs.declared.events.Event.{Event}
 use Rattle.vms_group_core.specs.declared.states.GroupState.{GroupState}

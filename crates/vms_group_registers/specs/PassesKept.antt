@@ -1,6 +1,5 @@
 -- A pass that begins, and one that ends, leave the registers as they are.
-use Rattle.std.specs.Prelude.{◌≡◌, ◌≢◌, ℕ, [], ◌∷◌, ℤ, pos, Option, Some, None, refl, nat_eq, if◌then◌else◌, Bool, true}
-use Rattle.std.specs.Prelude.{false}
+use Rattle.std.specs.Prelude.{◌≡◌, ◌≢◌, ℕ, [], ◌∷◌, Option, Some, None, refl, nat_eq, if◌then◌else◌, Bool, true, false}
 use Rattle.std.proofs.Common.{sym, ap, ◌∙◌, subst, arith, eqb-true}
 use Rattle.vms_history.specs.Common.{CpuId, Acts, Works, Ends, own, owner_in}
 use Rattle.vms_cells.specs.Cells.{at}

@@ -1,6 +1,6 @@
 -- The amounts that rise, in a table: which they are, and what one more and one less make of it.
-use Rattle.std.specs.Prelude.{◌≡◌, ℕ, suc, ◌+◌, ◌-◌, nat_eq, ◌&&◌, Bool, ℤ, pos, List, [], ◌∷◌, if◌then◌else◌, Option}
-use Rattle.std.specs.Prelude.{Some, None, slice_index_or, slice_set}
+use Rattle.std.specs.Prelude.{◌≡◌, ℕ, ◌+◌, ◌-◌, nat_eq, ◌&&◌, Bool, ℤ, pos, List, [], ◌∷◌, if◌then◌else◌, Option, Some}
+use Rattle.std.specs.Prelude.{None, slice_index_or, slice_set}
 use Rattle.std.specs.Ordering.{int_eq}
 use Rattle.vms_history.specs.Common.{count_below}
 use Rattle.vms_group_registers.specs.declared.rises.Rise.{Rise}

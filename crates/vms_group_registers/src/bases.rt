@@ -1,7 +1,6 @@
 //! Whether a history may begin with facts.
 
-ghost use Rattle.std.specs.Prelude.{◌≡◌, ◌↔◌, ◌<◌, ◌≤◌, ◌+◌, ◌*◌, ◌^◌, ℕ, pos, ◌≤ℤ◌, Some, IsTrue, length};
-ghost use Rattle.std.specs.Prelude.{if◌then◌else◌};
+ghost use Rattle.std.specs.Prelude.{◌≡◌, ◌↔◌, ◌<◌, ◌≤◌, ◌+◌, ◌*◌, ◌^◌, ℕ, pos, ◌≤ℤ◌, Some, IsTrue, if◌then◌else◌};
 ghost use Rattle.vms_group_core.specs.Common.{HasShape, IsBase, IsGroup, IsTree, in_subtree as in_subtree_of};
 ghost use Rattle.vms_group_core.specs.Common.{most_in_base, parent_of, pending_at, pending_of, size_of};
 ghost use Rattle.vms_group_core.specs.Common.{standing as standing_of};

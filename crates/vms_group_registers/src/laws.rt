@@ -1,4 +1,4 @@
-ghost use Rattle.std.specs.Prelude.{◌↔◌, ℕ};
+ghost use Rattle.std.specs.Prelude.{◌↔◌};
 ghost use Rattle.vms_history.specs.Common.{IsLegal};
 ghost use Rattle.vms_group_core.specs.Common.{History, groups};
 ghost use Rattle.vms_group_registers.specs.declared.facts.BoundedFacts.{BoundedFacts};

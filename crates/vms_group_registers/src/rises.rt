@@ -18,7 +18,7 @@ pub struct Rises {
     pub(crate) count: usize,
 }
 
-ghost use Rattle.std.specs.Prelude.{◌≡◌, ◌≢◌, ◌<◌, ◌≤◌, ◌↔◌, ℕ, suc, false, true, length, IfOk, IsTrue, MatchOption};
+ghost use Rattle.std.specs.Prelude.{◌≡◌, ◌≢◌, ◌<◌, ◌≤◌, ◌↔◌, ℕ, false, true, length, IfOk, IsTrue, MatchOption};
 ghost use Rattle.vms_group_registers.specs.Rises.{IsRise, added, dropped, rise_at, times_rising};
 
 impl Rises {

@@ -1,6 +1,6 @@
 //! What a step of the pass in a slot makes of the registers.
 
-ghost use Rattle.std.specs.Prelude.{◌≡◌, ◌<◌, ◌+◌, ◌-◌, ◌≤◌, ◌^◌, ℕ, pos, ◌+ℤ◌, unsigned_abs};
+ghost use Rattle.std.specs.Prelude.{◌≡◌, ◌<◌, ◌+◌, ◌≤◌, ◌^◌, ℕ, pos, ◌+ℤ◌, unsigned_abs};
 ghost use Rattle.vms_cells.specs.Cells.{at, with_cell};
 ghost use Rattle.vms_group_core.specs.Common.{IsGroup, IsTreeCpu, parent_of, pending_at, up_at, value_at, with_pending};
 ghost use Rattle.vms_group_core.specs.Common.{with_up, with_value};

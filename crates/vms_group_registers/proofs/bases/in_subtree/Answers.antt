@@ -1,5 +1,5 @@
 -- A group is in a subtree where its parent is, and not where it has none.
-use Rattle.std.proofs.Common.{◌≡◌, ◌<◌, Some, None, sym, ap, subst, ◌∙◌, arith}
+use Rattle.std.proofs.Common.{◌≡◌, Some, None, sym, ap, subst, ◌∙◌, arith}
 use Rattle.vms_group_core.specs.Common.{IsGroup, in_subtree as in_subtree_of, parent_of}
 use Rattle.vms_group_core.proofs.Flags.{in_subtree-child, in_subtree-itself, in_subtree-top}
 use Rattle.vms_group_registers.proofs.bases.in_subtree.Goals as goal

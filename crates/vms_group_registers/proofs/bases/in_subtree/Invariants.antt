@@ -1,4 +1,4 @@
-use Rattle.std.proofs.Common.{◌≡◌, ◌<◌}
+use Rattle.std.proofs.Common.{◌≡◌}
 use Rattle.vms_group_core.specs.Common.{IsGroup, in_subtree as in_subtree_of}
 use Rattle.vms_group_registers.proofs.bases.in_subtree.Given as goal
 

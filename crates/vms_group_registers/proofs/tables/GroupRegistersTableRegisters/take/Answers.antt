@@ -7,153 +7,88 @@ use Rattle.vms_group_registers.proofs.ShownSteps.{add_up-keeps, add_value-keeps,
 use Rattle.vms_group_registers.proofs.ShownSteps.{take_pending-keeps, take_up-keeps}
 use Rattle.vms_group_registers.proofs.tables.GroupRegistersTableRegisters.take.Goals as goal
 
-pub change-requires-clause-kept : goal.change-requires-clause-kept
-change-requires-clause-kept c =
-    let may = rw c.in-AddP.is at c.requires.2 in
-    kept c.args.facts.now c.requires.0 c.requires.1 c.args.slot c.args.pass may.stands c.args.self.now c.requires.3
-
-pub change-requires-clause-cpu : goal.change-requires-clause-cpu
-change-requires-clause-cpu c =
-    let may = rw c.in-AddP.is at c.requires.2 in
-    let all = (may-change c.args.facts.now c.requires.0 c.requires.1 c.args.slot c.args.pass c.args.self.now c.requires.3
-    c.in-AddP.group c.in-AddP.amount may) in
-    all.0
-
-pub change-requires-clause-group : goal.change-requires-clause-group
-change-requires-clause-group c =
-    let may = rw c.in-AddP.is at c.requires.2 in
-    let all = (may-change c.args.facts.now c.requires.0 c.requires.1 c.args.slot c.args.pass c.args.self.now c.requires.3
-    c.in-AddP.group c.in-AddP.amount may) in
-    all.1
-
-pub change-requires-clause-room : goal.change-requires-clause-room
-change-requires-clause-room c =
+pub change-requires : goal.change-requires
+change-requires c =
+    let facts = c.args.facts.now in
+    let r = c.args.self.now in
     let may = rw c.in-AddP.is at c.requires.2 in
     let back : to_z w64 (of_z w64 c.in-AddP.amount) ≡ c.in-AddP.amount = search rules in
-    rw back (change-room c.args.facts.now c.requires.0 c.requires.1 c.args.slot c.args.pass c.args.self.now c.requires.3
-    c.in-AddP.group c.in-AddP.amount may)
+    let all = may-change facts c.requires.0 c.requires.1 c.args.slot c.args.pass r c.requires.3 c.in-AddP.group
+    c.in-AddP.amount may in
+    record {
+      kept = kept facts c.requires.0 c.requires.1 c.args.slot c.args.pass may.stands r c.requires.3;
+      cpu = all.0;
+      group = all.1;
+      room = rw back (change-room facts c.requires.0 c.requires.1 c.args.slot c.args.pass r c.requires.3
+          c.in-AddP.group c.in-AddP.amount may);
+      volume = let most = all.2 in rw back (omega arith);
+    }
 
-pub change-requires-clause-volume : goal.change-requires-clause-volume
-change-requires-clause-volume c =
-    let may = rw c.in-AddP.is at c.requires.2 in
-    let back : to_z w64 (of_z w64 c.in-AddP.amount) ≡ c.in-AddP.amount = search rules in
-    let all = (may-change c.args.facts.now c.requires.0 c.requires.1 c.args.slot c.args.pass c.args.self.now c.requires.3
-    c.in-AddP.group c.in-AddP.amount may) in
-    let most = all.2 in
-    rw back (omega (arith, most))
-
-pub take_pending-requires-clause-kept : goal.take_pending-requires-clause-kept
-take_pending-requires-clause-kept c =
-    let may = rw c.in-TakeP.is at c.requires.2 in
-    kept c.args.facts.now c.requires.0 c.requires.1 c.args.slot c.args.pass may.stands c.args.self.now c.requires.3
-
-pub take_pending-requires-clause-slot : goal.take_pending-requires-clause-slot
-take_pending-requires-clause-slot c =
-    let may = rw c.in-TakeP.is at c.requires.2 in
-    may.stands.slot_in
-
-pub take_pending-requires-clause-cpu : goal.take_pending-requires-clause-cpu
-take_pending-requires-clause-cpu c =
-    let may = rw c.in-TakeP.is at c.requires.2 in
-    let all = (found-pending c.args.facts.now c.requires.0 c.requires.1 c.args.slot c.args.pass c.args.self.now c.requires.3
-    c.in-TakeP.cpu c.in-TakeP.group c.in-TakeP.v may) in
-    all.0
-
-pub take_pending-requires-clause-group : goal.take_pending-requires-clause-group
-take_pending-requires-clause-group c =
-    let may = rw c.in-TakeP.is at c.requires.2 in
-    let all = (found-pending c.args.facts.now c.requires.0 c.requires.1 c.args.slot c.args.pass c.args.self.now c.requires.3
-    c.in-TakeP.cpu c.in-TakeP.group c.in-TakeP.v may) in
-    all.1
-
-pub take_pending-requires-clause-room : goal.take_pending-requires-clause-room
-take_pending-requires-clause-room c =
+pub take_pending-requires : goal.take_pending-requires
+take_pending-requires c =
+    let facts = c.args.facts.now in
+    let r = c.args.self.now in
     let may = rw c.in-TakeP.is at c.requires.2 in
     let back : to_z w64 (of_z w64 c.in-TakeP.v) ≡ c.in-TakeP.v = search rules in
-    rw back (take_pending-room c.args.facts.now c.requires.0 c.requires.1 c.args.slot c.args.pass c.args.self.now c.requires.3
-    c.in-TakeP.cpu c.in-TakeP.group c.in-TakeP.v may)
+    let all = found-pending facts c.requires.0 c.requires.1 c.args.slot c.args.pass r c.requires.3 c.in-TakeP.cpu
+    c.in-TakeP.group c.in-TakeP.v may in
+    record {
+      kept = kept facts c.requires.0 c.requires.1 c.args.slot c.args.pass may.stands r c.requires.3;
+      slot = may.stands.slot_in;
+      cpu = all.0;
+      group = all.1;
+      room = rw back (take_pending-room facts c.requires.0 c.requires.1 c.args.slot c.args.pass r c.requires.3
+          c.in-TakeP.cpu c.in-TakeP.group c.in-TakeP.v may);
+    }
 
-pub take_up-requires-clause-kept : goal.take_up-requires-clause-kept
-take_up-requires-clause-kept c =
-    let may = rw c.in-TakeU.is at c.requires.2 in
-    kept c.args.facts.now c.requires.0 c.requires.1 c.args.slot c.args.pass may.stands c.args.self.now c.requires.3
-
-pub take_up-requires-clause-slot : goal.take_up-requires-clause-slot
-take_up-requires-clause-slot c =
-    let may = rw c.in-TakeU.is at c.requires.2 in
-    may.stands.slot_in
-
-pub take_up-requires-clause-group : goal.take_up-requires-clause-group
-take_up-requires-clause-group c =
-    let may = rw c.in-TakeU.is at c.requires.2 in
-    let all = (found-up c.args.facts.now c.requires.0 c.requires.1 c.args.slot c.args.pass c.args.self.now c.requires.3
-    c.in-TakeU.group c.in-TakeU.v may) in
-    all.0
-
-pub take_up-requires-clause-room : goal.take_up-requires-clause-room
-take_up-requires-clause-room c =
+pub take_up-requires : goal.take_up-requires
+take_up-requires c =
+    let facts = c.args.facts.now in
+    let r = c.args.self.now in
     let may = rw c.in-TakeU.is at c.requires.2 in
     let back : to_z w64 (of_z w64 c.in-TakeU.v) ≡ c.in-TakeU.v = search rules in
-    rw back (take_up-room c.args.facts.now c.requires.0 c.requires.1 c.args.slot c.args.pass c.args.self.now c.requires.3
-    c.in-TakeU.group c.in-TakeU.v may)
+    let all = found-up facts c.requires.0 c.requires.1 c.args.slot c.args.pass r c.requires.3 c.in-TakeU.group
+    c.in-TakeU.v may in
+    record {
+      kept = kept facts c.requires.0 c.requires.1 c.args.slot c.args.pass may.stands r c.requires.3;
+      slot = may.stands.slot_in;
+      group = all.0;
+      room = rw back (take_up-room facts c.requires.0 c.requires.1 c.args.slot c.args.pass r c.requires.3
+          c.in-TakeU.group c.in-TakeU.v may);
+    }
 
-pub add_value-requires-clause-kept : goal.add_value-requires-clause-kept
-add_value-requires-clause-kept c =
-    let may = rw c.in-AddV.is at c.requires.2 in
-    kept c.args.facts.now c.requires.0 c.requires.1 c.args.slot c.args.pass may.stands c.args.self.now c.requires.3
-
-pub add_value-requires-clause-slot : goal.add_value-requires-clause-slot
-add_value-requires-clause-slot c =
-    let may = rw c.in-AddV.is at c.requires.2 in
-    may.stands.slot_in
-
-pub add_value-requires-clause-group : goal.add_value-requires-clause-group
-add_value-requires-clause-group c =
-    let may = rw c.in-AddV.is at c.requires.2 in
-    let all = (may-add_value c.args.facts.now c.requires.0 c.requires.1 c.args.slot c.args.pass c.args.self.now c.requires.3
-    c.in-AddV.group c.in-AddV.amount may) in
-    all.0
-
-pub add_value-requires-clause-sum : goal.add_value-requires-clause-sum
-add_value-requires-clause-sum c =
+pub add_value-requires : goal.add_value-requires
+add_value-requires c =
+    let facts = c.args.facts.now in
+    let r = c.args.self.now in
     let may = rw c.in-AddV.is at c.requires.2 in
     let back : to_z w64 (of_z w64 c.in-AddV.amount) ≡ c.in-AddV.amount = search rules in
-    rw back (value-room c.args.facts.now c.requires.0 c.requires.1 c.args.slot c.args.pass c.args.self.now c.requires.3
-    c.in-AddV.group c.in-AddV.amount may)
+    let all = may-add_value facts c.requires.0 c.requires.1 c.args.slot c.args.pass r c.requires.3 c.in-AddV.group
+    c.in-AddV.amount may in
+    record {
+      kept = kept facts c.requires.0 c.requires.1 c.args.slot c.args.pass may.stands r c.requires.3;
+      slot = may.stands.slot_in;
+      group = all.0;
+      sum = rw back (value-room facts c.requires.0 c.requires.1 c.args.slot c.args.pass r c.requires.3 c.in-AddV.group
+          c.in-AddV.amount may);
+      room = all.3;
+    }
 
-pub add_value-requires-clause-room : goal.add_value-requires-clause-room
-add_value-requires-clause-room c =
-    let may = rw c.in-AddV.is at c.requires.2 in
-    let all = (may-add_value c.args.facts.now c.requires.0 c.requires.1 c.args.slot c.args.pass c.args.self.now c.requires.3
-    c.in-AddV.group c.in-AddV.amount may) in
-    all.3
-
-pub add_up-requires-clause-kept : goal.add_up-requires-clause-kept
-add_up-requires-clause-kept c =
-    let may = rw c.in-AddU.is at c.requires.2 in
-    kept c.args.facts.now c.requires.0 c.requires.1 c.args.slot c.args.pass may.stands c.args.self.now c.requires.3
-
-pub add_up-requires-clause-group : goal.add_up-requires-clause-group
-add_up-requires-clause-group c =
-    let may = rw c.in-AddU.is at c.requires.2 in
-    let all = (may-add_up c.args.facts.now c.requires.0 c.requires.1 c.args.slot c.args.pass c.args.self.now c.requires.3
-    c.in-AddU.group c.in-AddU.amount may) in
-    all.0
-
-pub add_up-requires-clause-sum : goal.add_up-requires-clause-sum
-add_up-requires-clause-sum c =
+pub add_up-requires : goal.add_up-requires
+add_up-requires c =
+    let facts = c.args.facts.now in
+    let r = c.args.self.now in
     let may = rw c.in-AddU.is at c.requires.2 in
     let back : to_z w64 (of_z w64 c.in-AddU.amount) ≡ c.in-AddU.amount = search rules in
-    rw back (up-room c.args.facts.now c.requires.0 c.requires.1 c.args.slot c.args.pass c.args.self.now c.requires.3
-    c.in-AddU.group c.in-AddU.amount may)
-
-pub add_up-requires-clause-rises : goal.add_up-requires-clause-rises
-add_up-requires-clause-rises c =
-    let may = rw c.in-AddU.is at c.requires.2 in
-    let back : to_z w64 (of_z w64 c.in-AddU.amount) ≡ c.in-AddU.amount = search rules in
-    let all = (may-add_up c.args.facts.now c.requires.0 c.requires.1 c.args.slot c.args.pass c.args.self.now c.requires.3
-    c.in-AddU.group c.in-AddU.amount may) in
-    rw back all.1
+    let all = may-add_up facts c.requires.0 c.requires.1 c.args.slot c.args.pass r c.requires.3 c.in-AddU.group
+    c.in-AddU.amount may in
+    record {
+      kept = kept facts c.requires.0 c.requires.1 c.args.slot c.args.pass may.stands r c.requires.3;
+      group = all.0;
+      sum = rw back (up-room facts c.requires.0 c.requires.1 c.args.slot c.args.pass r c.requires.3 c.in-AddU.group
+          c.in-AddU.amount may);
+      rises = rw back all.1;
+    }
 
 pub returns-in-AddP : goal.returns-in-AddP
 returns-in-AddP c =
