@@ -1,10 +1,15 @@
 -- What the calls of a handle make, and when they are refused.
 use Rattle.std.specs.Prelude.{◌≡◌, ℕ, ◌+◌, ◌<◌, ◌≤◌, ℤ, List, slice_index_or, slice_set, unsigned_abs}
+use Rattle.vms_base.specs.Places.{IsNode}
+use Rattle.vms_calls.specs.Common.{most_sets}
+use Rattle.vms_core.specs.Pages.{state_after}
 use Rattle.vms_world.specs.Common.{CounterId, IsCounter, IsZone, Mode, PlaceId, Shape, Step, most_volume, pages}
+use Rattle.vms_words.specs.Common.{largest_sets}
 use Rattle.vms_count.specs.Common.{HasChanged}
 use Rattle.vms_seats.specs.Common.{Made}
 use Rattle.vms_counters.specs.declared.errors.CallError.{CallError}
-use Rattle.vms_counters.specs.declared.errors.CallError.TheVariants.{NoCounter, NoZone, NoZoneIndex, TooMuch}
+use Rattle.vms_counters.specs.declared.errors.CallError.TheVariants.{NoCounter, NoNode, NoOrder, NoZone, NoZoneIndex}
+use Rattle.vms_counters.specs.declared.errors.CallError.TheVariants.{TooMuch, TooOften}
 use Rattle.vms_counters.specs.Handles.{AnyHandle}
 
 -- the layout of a handle's counters
@@ -59,3 +64,51 @@ RefusesZoneTest new old zone most (NoZone n) =
 RefusesZoneTest new old zone most (NoZoneIndex n) =
     (n ≡ most) × IsZone (layout_of old) zone.number × (3 < most) × (new ≡ old)
 RefusesZoneTest new old zone most _ = ⊥
+
+-- the same with an order of free blocks, and of a node
+abbrev pub IsOrderedTest : Shape → PlaceId → ℕ → ℕ → Type 0
+IsOrderedTest shape zone order most = IsZone shape zone.number × (order ≤ 10) × (most ≤ 3)
+
+abbrev pub IsNodeTest : Shape → PlaceId → ℕ → ℕ → Type 0
+IsNodeTest shape node order most = IsNode shape node.number × (order ≤ 10) × (most ≤ 3)
+
+-- why such a test is refused: what is asked of the zone or the node first, then of the order, then of the zone index
+abbrev pub RefusesOrderTest : AnyHandle → AnyHandle → PlaceId → ℕ → ℕ → CallError → Type 0
+RefusesOrderTest new old zone order most (NoZone n) =
+    (n ≡ zone.number) × (IsZone (layout_of old) zone.number → ⊥) × (new ≡ old)
+RefusesOrderTest new old zone order most (NoOrder n) =
+    (n ≡ order) × IsZone (layout_of old) zone.number × (10 < order) × (new ≡ old)
+RefusesOrderTest new old zone order most (NoZoneIndex n) =
+    (n ≡ most) × IsZone (layout_of old) zone.number × (order ≤ 10) × (3 < most) × (new ≡ old)
+RefusesOrderTest new old zone order most _ = ⊥
+
+abbrev pub RefusesNodeTest : AnyHandle → AnyHandle → PlaceId → ℕ → ℕ → CallError → Type 0
+RefusesNodeTest new old node order most (NoNode n) =
+    (n ≡ node.number) × (IsNode (layout_of old) node.number → ⊥) × (new ≡ old)
+RefusesNodeTest new old node order most (NoOrder n) =
+    (n ≡ order) × IsNode (layout_of old) node.number × (10 < order) × (new ≡ old)
+RefusesNodeTest new old node order most (NoZoneIndex n) =
+    (n ≡ most) × IsNode (layout_of old) node.number × (order ≤ 10) × (3 < most) × (new ≡ old)
+RefusesNodeTest new old node order most _ = ⊥
+
+-- how often any one threshold or mark was set at most, as the pass of a handle knows it
+abbrev pub sets_of : AnyHandle → ℕ
+sets_of handle = largest_sets (layout_of handle) (state_after handle.pass.facts handle.pass.seen)
+
+-- why thresholds aren't set: the layout has no such node, or so many more sets would be one too many
+abbrev pub RefusesRating : ℕ → AnyHandle → AnyHandle → PlaceId → CallError → Type 0
+RefusesRating further new old node (NoNode n) =
+    (n ≡ node.number) × (IsNode (layout_of old) node.number → ⊥) × (new ≡ old)
+RefusesRating further new old node TooOften =
+    IsNode (layout_of old) node.number × (most_sets ≤ further + sets_of old) × (new ≡ old)
+RefusesRating further new old node _ = ⊥
+
+abbrev pub RefusesRefresh : AnyHandle → AnyHandle → CallError → Type 0
+RefusesRefresh new old TooOften = (most_sets ≤ sets_of old) × (new ≡ old)
+RefusesRefresh new old _ = ⊥
+
+-- why kswapd takes no turn
+abbrev pub RefusesTurn : AnyHandle → AnyHandle → PlaceId → ℕ → ℕ → CallError → Type 0
+RefusesTurn new old node order most TooOften =
+    IsNodeTest (layout_of old) node order most × (most_sets ≤ 1 + sets_of old) × (new ≡ old)
+RefusesTurn new old node order most error = RefusesNodeTest new old node order most error

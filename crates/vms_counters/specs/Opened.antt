@@ -1,7 +1,7 @@
 -- What contracts see of open counters, and what these keep between two calls.
 use Rattle.std.specs.Prelude.{◌≡◌, ℕ, Bool, true, false, List, [], length, replicate, slice_index_or, slice_set, Option}
 use Rattle.std.specs.Prelude.{Some, None, All, IsSome}
-use Rattle.vms_world.specs.Common.{CpuId, Facts, Header, IsCpu, Shape, State, Step, ZoneSize, counter_count, facts_of}
+use Rattle.vms_world.specs.Common.{CpuId, Facts, Header, IsCpu, IsHeader, Shape, State, Step, ZoneSize, counter_count, facts_of}
 use Rattle.vms_world.specs.Common.{pages, settled, AreAnswers, started}
 use Rattle.vms_core.specs.Cells.{HasShape}
 use Rattle.vms_core.specs.Pages.{History, state_after}
@@ -41,6 +41,12 @@ pub record AreKept (words : Shared Facts) (last : State) (main : Pass Facts Step
   pub each : (cpu : CpuId) → IsCpu words.facts.layout cpu.number →
       KnowsOwner pages (HoldsFor words.facts.layout) words.facts main.seen cpu
       (slice_index_or volumes cpu.number None)
+
+-- so it is with counters, whose header is valid
+pub record AreCounters (header : Header) (words : Shared Facts) (last : State) (main : Pass Facts Step)
+    (volumes : List (Option (List ℕ))) (control : Bool) : Type 0 where
+  pub kept : AreKept words last main volumes control
+  pub valid : IsHeader header
 
 -- counters that begin with a state: no step was made, and no CPU has changed anything
 pub record AreOpenedAt (header : Header) (state : State) (opened : Opened) : Type 0 where

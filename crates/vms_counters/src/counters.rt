@@ -44,7 +44,7 @@ impl Model for Counters {
     ghost Value = { Opened };
 
     ghost use Rattle.std.specs.Arc.{arc_value};
-    ghost use Rattle.vms_counters.specs.Opened.{AreKept};
+    ghost use Rattle.vms_counters.specs.Opened.{AreCounters};
 
     ghost view = { λ c. record {
       header = (arc_value c.shared).header;
@@ -53,7 +53,8 @@ impl Model for Counters {
       control = c.control;
     } };
 
-    ghost invariant = { λ c. AreKept (arc_value c.shared).table c.last c.main c.volumes.items c.control };
+    ghost invariant = { λ c. AreCounters (arc_value c.shared).header (arc_value c.shared).table c.last c.main
+        c.volumes.items c.control };
 }
 
 /// What is left of counters that were closed.
@@ -213,6 +214,7 @@ fn take_kept(volumes: &mut Vec<Option<Volume>>, at: usize) -> Volume
 
 /// Counters that begin with this state.
 fn open_at(alloc: Global, header: Header, pages: State) -> Result<Counters, Memory>
+    requires valid { IsHeader header }
     requires base { IsBase (facts_of header pages) }
     requires online { pages.cpu ≡ replicate header.layout.cpus Online }
     ensures { IfOk result (AreOpenedAt header pages) }

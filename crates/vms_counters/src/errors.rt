@@ -40,6 +40,9 @@ pub enum CallError {
     /// No block has such an order: they are 0 to 10.
     #[error("there is no order {0}")]
     NoOrder(u32),
+    /// A threshold or a mark was set 2,000,000 times.
+    #[error("thresholds were set too often")]
+    TooOften,
     /// The CPU would have changed the counter by more than 2^48 pages in absolute sum.
     #[error("{0}")]
     TooMuch(Overflow),

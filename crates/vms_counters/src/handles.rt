@@ -1,11 +1,13 @@
-ghost use Rattle.std.specs.Prelude.{◌≡◌, true, false, Some, pos, negsuc, IfOk, MatchResult};
+ghost use Rattle.std.specs.Prelude.{◌≡◌, ◌≢◌, true, false, Some, pos, negsuc, IfOk, MatchResult};
 ghost use Rattle.vms_base.specs.declared.kinds.Mode.TheVariants.{Dec, Inc, Mod};
-ghost use Rattle.vms_world.specs.Common.{IsCounter, IsCpu, IsItem, IsPlaceValue, IsSnapshot, IsSystemValue, IsFold};
-ghost use Rattle.vms_world.specs.Common.{IsWatermarkTest, free_pages, limit_of};
+ghost use Rattle.vms_calls.specs.Common.{IsBalanceTest, IsOrderTest};
+ghost use Rattle.vms_world.specs.Common.{IsCounter, IsCpu, IsFold, IsItem, IsPlaceValue};
+ghost use Rattle.vms_world.specs.Common.{IsSnapshot, IsSystemValue, IsWatermarkTest, free_pages, limit_of};
 ghost use Rattle.vms_count.specs.Common.{GoesWith, owns_cpu};
-ghost use Rattle.vms_counters.specs.Calls.{Changes, IsZoneTest, Makes, Refuses, RefusesChange, RefusesZoneTest};
-ghost use Rattle.vms_counters.specs.Calls.{layout_of};
-ghost use Rattle.vms_look.specs.Common.{SaysTruly, SumsTruly, TellsTruly};
+ghost use Rattle.vms_counters.specs.Calls.{Changes, IsNodeTest, IsOrderedTest, IsZoneTest, Makes, Refuses};
+ghost use Rattle.vms_counters.specs.Calls.{RefusesChange, RefusesNodeTest, RefusesOrderTest, RefusesZoneTest, layout_of};
+ghost use Rattle.vms_kswapd.specs.Common.{CountsBlocks, NamesPassed};
+ghost use Rattle.vms_look.specs.Common.{HasSummed, SaysTruly, SumsTruly, TellsTruly};
 
 use crate::errors::CallError;
 use crate::looks;
@@ -14,7 +16,7 @@ use std::alloc::Global;
 use std::marker::Model;
 use std::sync::Arc;
 use vms_base::{CounterId, CpuId, Header, ItemId, Mode, PlaceId, WaterMark};
-use vms_calls::Verdict;
+use vms_calls::{Balance, OrderVerdict, Verdict};
 use vms_words::CpuPass;
 
 /// What a thread changes and reads the counters by: it owns a CPU, and may be handed from thread to thread. Contracts
@@ -33,7 +35,7 @@ impl Model for Handle {
     ghost Value = { AnyHandle };
 
     ghost use Rattle.std.specs.Arc.{arc_value};
-    ghost use Rattle.vms_counters.specs.Handles.{IsBetweenCalls};
+    ghost use Rattle.vms_counters.specs.Handles.{IsHandle};
 
     ghost view = { λ h. record {
       header = (arc_value h.shared).header;
@@ -41,7 +43,7 @@ impl Model for Handle {
       volume = h.pass.volume;
     } };
 
-    ghost invariant = { λ h. IsBetweenCalls (arc_value h.shared).table h.pass.pass };
+    ghost invariant = { λ h. IsHandle (arc_value h.shared).header (arc_value h.shared).table h.pass.pass };
 }
 
 impl Handle {
@@ -170,5 +172,45 @@ impl Handle {
             SumsTruly self.new.pass self.old.pass (free_pages (layout_of self.old) zone) verdict.free) }
     {
         looks::watermark_ok(&self.shared, &mut self.pass, zone, mark, most)
+    }
+
+    /// Tests whether a zone has more free pages than a watermark asks for and, above order 0, a free block of
+    /// `2^order` pages or more (`__zone_watermark_ok` of mm/page_alloc.c). Blocks are looked for in the zone items
+    /// `area1` to `area10` that the header declares. What is true of an answer is said as of `zone_ok` of
+    /// `vms_kswapd`.
+    pub fn zone_ok(
+        &mut self,
+        zone: PlaceId,
+        mark: WaterMark,
+        order: u32,
+        most: u32,
+    ) -> Result<OrderVerdict, CallError>
+        ensures made { MatchResult result
+            (λ verdict. Makes (IsOrderedTest (layout_of self.old) zone order most)
+            (λ steps. IsOrderTest self.old.header zone mark most order steps verdict) self.new self.old)
+            (RefusesOrderTest self.new self.old zone order most) }
+        ensures near { IfOk result (λ verdict. verdict.fast ≡ true →
+            TellsTruly self.new.pass self.old.pass zone verdict.free) }
+        ensures truly { IfOk result (λ verdict. verdict.yes ≡ true → verdict.fast ≡ true →
+            SaysTruly self.new.pass self.old.pass zone (limit_of self.old.header zone.number mark most)) }
+        ensures summed { IfOk result (λ verdict. verdict.fast ≡ false →
+            HasSummed self.new.pass self.old.pass (free_pages (layout_of self.old) zone) verdict.free) }
+        ensures counts { IfOk result (λ verdict. verdict.yes ≡ true → order ≢ 0 →
+            CountsBlocks self.old.header self.new.pass self.old.pass zone order verdict.area) }
+    {
+        looks::zone_ok(&self.shared, &mut self.pass, zone, mark, order, most)
+    }
+
+    /// Tests whether a node is balanced for an order (`pgdat_balanced` of mm/vmscan.c): its zones up to the zone index
+    /// `most` are tested in order by their `high` watermark, up to the first that passes. What is true of a yes is said
+    /// as of `balanced` of `vms_kswapd`.
+    pub fn balanced(&mut self, node: PlaceId, order: u32, most: u32) -> Result<Balance, CallError>
+        ensures made { MatchResult result
+            (λ balance. Makes (IsNodeTest (layout_of self.old) node order most)
+            (λ steps. IsBalanceTest self.old.header node order most steps balance) self.new self.old)
+            (RefusesNodeTest self.new self.old node order most) }
+        ensures passed { IfOk result (NamesPassed self.old.header self.new.pass self.old.pass node order most) }
+    {
+        looks::balanced(&self.shared, &mut self.pass, node, order, most)
     }
 }

@@ -7,6 +7,7 @@ mod counters;
 mod errors;
 mod handles;
 mod looks;
+mod rating;
 mod shared;
 
 pub use control_handles::ControlHandle;

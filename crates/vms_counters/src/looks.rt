@@ -1,15 +1,21 @@
-ghost use Rattle.std.specs.Prelude.{◌≡◌, true, false, IfOk, MatchResult};
-ghost use Rattle.vms_world.specs.Common.{IsCounter, IsCpu, IsFold, IsItem, IsPlaceValue, IsSnapshot, IsSystemValue};
-ghost use Rattle.vms_world.specs.Common.{IsWatermarkTest, free_pages, limit_of};
+ghost use Rattle.std.specs.Prelude.{◌≡◌, ◌≢◌, true, false, IfOk, MatchResult};
+ghost use Rattle.vms_base.specs.Places.{IsNode};
+ghost use Rattle.vms_calls.specs.Common.{IsBalanceTest, IsOrderTest};
+ghost use Rattle.vms_world.specs.Common.{IsCounter, IsCpu, IsFold, IsHeader, IsItem, IsPlaceValue};
+ghost use Rattle.vms_world.specs.Common.{IsSnapshot, IsSystemValue, IsWatermarkTest, free_pages, limit_of};
 ghost use Rattle.vms_count.specs.Common.{owns_cpu};
-ghost use Rattle.vms_counters.specs.Calls.{IsZoneTest, Makes, Refuses, RefusesZoneTest};
+ghost use Rattle.vms_counters.specs.Calls.{IsNodeTest, IsOrderedTest, IsZoneTest, Makes, Refuses, RefusesNodeTest};
+ghost use Rattle.vms_counters.specs.Calls.{RefusesOrderTest, RefusesZoneTest};
 ghost use Rattle.vms_counters.specs.Handles.{IsBetweenCalls, handle_of};
-ghost use Rattle.vms_look.specs.Common.{SaysTruly, SumsTruly, TellsTruly};
+ghost use Rattle.vms_kswapd.specs.Common.{CountsBlocks, NamesPassed};
+ghost use Rattle.vms_look.specs.Common.{HasSummed, SaysTruly, SumsTruly, TellsTruly};
 
 use crate::errors::CallError;
 use crate::shared::SharedCounters;
-use vms_base::{CounterId, CpuId, ItemId, PlaceId, WaterMark};
-use vms_calls::{Verdict, folds_leave_their_caller, looks_leave_their_caller};
+use vms_base::{CounterId, CpuId, ItemId, Layout, PlaceId, WaterMark};
+use vms_calls::{
+    Balance, OrderVerdict, Verdict, folds_leave_their_caller, looks_leave_their_caller,
+};
 use vms_words::Caller;
 
 // The calls that every handle has, by the pass that it is.
@@ -148,4 +154,89 @@ pub(crate) fn watermark_ok<P: Caller>(
         return Err(CallError::NoZoneIndex(most));
     }
     Ok(vms_look::watermark_ok(table, pass, header, zone, mark, most))
+}
+
+/// Tests whether a zone has more free pages than a watermark asks for and a free block of an order.
+pub(crate) fn zone_ok<P: Caller>(
+    shared: &SharedCounters,
+    pass: &mut P,
+    zone: PlaceId,
+    mark: WaterMark,
+    order: u32,
+    most: u32,
+) -> Result<OrderVerdict, CallError>
+    requires between { IsBetweenCalls shared.now.table (P.pass pass.old) }
+    requires header { IsHeader shared.now.header }
+    ensures between { IsBetweenCalls shared.now.table (P.pass pass.new) }
+    ensures made { MatchResult result
+        (λ verdict. Makes (IsOrderedTest shared.now.table.facts.layout zone order most)
+        (λ steps. IsOrderTest shared.now.header zone mark most order steps verdict)
+        (handle_of shared.now.header (P.pass pass.new) (P.volume pass.new))
+        (handle_of shared.now.header (P.pass pass.old) (P.volume pass.old)))
+        (RefusesOrderTest (handle_of shared.now.header (P.pass pass.new) (P.volume pass.new))
+        (handle_of shared.now.header (P.pass pass.old) (P.volume pass.old)) zone order most) }
+    ensures near { IfOk result (λ verdict. verdict.fast ≡ true →
+        TellsTruly (P.pass pass.new) (P.pass pass.old) zone verdict.free) }
+    ensures truly { IfOk result (λ verdict. verdict.yes ≡ true → verdict.fast ≡ true →
+        SaysTruly (P.pass pass.new) (P.pass pass.old) zone (limit_of shared.now.header zone.number mark most)) }
+    ensures summed { IfOk result (λ verdict. verdict.fast ≡ false →
+        HasSummed (P.pass pass.new) (P.pass pass.old) (free_pages shared.now.table.facts.layout zone) verdict.free) }
+    ensures counts { IfOk result (λ verdict. verdict.yes ≡ true → order ≢ 0 →
+        CountsBlocks shared.now.header (P.pass pass.new) (P.pass pass.old) zone order verdict.area) }
+{
+    looks_leave_their_caller();
+    let SharedCounters { header, table } = shared;
+    if zone.number as usize >= table.layout().zones().len() {
+        return Err(CallError::NoZone(zone.number));
+    }
+    if order > 10 {
+        return Err(CallError::NoOrder(order));
+    }
+    if most > 3 {
+        return Err(CallError::NoZoneIndex(most));
+    }
+    Ok(vms_kswapd::zone_ok(table, pass, header, zone, mark, order, most))
+}
+
+/// Tests whether a node is balanced for an order.
+pub(crate) fn balanced<P: Caller>(
+    shared: &SharedCounters,
+    pass: &mut P,
+    node: PlaceId,
+    order: u32,
+    most: u32,
+) -> Result<Balance, CallError>
+    requires between { IsBetweenCalls shared.now.table (P.pass pass.old) }
+    requires header { IsHeader shared.now.header }
+    ensures between { IsBetweenCalls shared.now.table (P.pass pass.new) }
+    ensures made { MatchResult result
+        (λ balance. Makes (IsNodeTest shared.now.table.facts.layout node order most)
+        (λ steps. IsBalanceTest shared.now.header node order most steps balance)
+        (handle_of shared.now.header (P.pass pass.new) (P.volume pass.new))
+        (handle_of shared.now.header (P.pass pass.old) (P.volume pass.old)))
+        (RefusesNodeTest (handle_of shared.now.header (P.pass pass.new) (P.volume pass.new))
+        (handle_of shared.now.header (P.pass pass.old) (P.volume pass.old)) node order most) }
+    ensures passed { IfOk result (NamesPassed shared.now.header (P.pass pass.new) (P.pass pass.old) node order most) }
+{
+    looks_leave_their_caller();
+    let SharedCounters { header, table } = shared;
+    check_node(table.layout(), node)?;
+    if order > 10 {
+        return Err(CallError::NoOrder(order));
+    }
+    if most > 3 {
+        return Err(CallError::NoZoneIndex(most));
+    }
+    Ok(vms_kswapd::balanced(table, pass, header, node, order, most))
+}
+
+/// Whether a place is a node of the layout.
+pub(crate) fn check_node(layout: &Layout, node: PlaceId) -> Result<(), CallError>
+    ensures { MatchResult result (λ _. IsNode layout.now node.number)
+        (λ error. (error ≡ CallError.NoNode node.number) × ¬ IsNode layout.now node.number) }
+{
+    if (node.number as usize) < layout.zones().len() || node.number >= layout.places() {
+        return Err(CallError::NoNode(node.number));
+    }
+    Ok(())
 }

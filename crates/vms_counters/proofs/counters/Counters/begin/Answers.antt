@@ -13,18 +13,21 @@ invariant_of-self c =
     let old = c.self.inside in
     let words = (arc_value old.shared).table in
     let kept = kept-begun words old.last c.cpu_pass-pass.new.main old.main c.cpu_pass-pass.result.pass
-    old.volumes.items old.control c.self.invariant c.args.cpu
-    (omega (arith, c.if-at-len.false, c.len.ensures, c.self.invariant.one_each)) c.cpu_pass-pass.ensures.begun in
-    subst (λ (volumes : List (Option (List ℕ))). AreKept words old.last c.cpu_pass-pass.new.main volumes old.control)
-    (sym c.take_kept-volume.ensures.after) kept
+    old.volumes.items old.control c.self.invariant.kept c.args.cpu
+    (omega (arith, c.if-at-len.false, c.len.ensures, c.self.invariant.kept.one_each)) c.cpu_pass-pass.ensures.begun in
+    record {
+      kept = subst (λ (volumes : List (Option (List ℕ))). AreKept words old.last c.cpu_pass-pass.new.main volumes
+          old.control) (sym c.take_kept-volume.ensures.after) kept;
+      valid = c.self.invariant.valid;
+    }
 
 pub cpu_pass-pass-requires-clause-online : goal.cpu_pass-pass-requires-clause-online
 cpu_pass-pass-requires-clause-online c =
     let old = c.self.inside in
     let words = (arc_value old.shared).table in
     let same : c.deref.result.now.table ≡ words = search rules in
-    let home = may_own-kept words old.last old.main old.main old.main old.volumes.items old.control c.self.invariant
-    c.args.cpu (omega (arith, c.if-at-len.false, c.len.ensures, c.self.invariant.one_each)) c.take_kept-volume.result
+    let home = may_own-kept words old.last old.main old.main old.main old.volumes.items old.control c.self.invariant.kept
+    c.args.cpu (omega (arith, c.if-at-len.false, c.len.ensures, c.self.invariant.kept.one_each)) c.take_kept-volume.result
     c.take_kept-volume.ensures.value in
     subst (λ (w : Shared Facts). MayOwnCpu w.facts.layout w.facts.base.cpu (Some c.args.cpu)) (sym same) home.may_own
 
@@ -33,8 +36,8 @@ cpu_pass-pass-requires-clause-free c =
     let old = c.self.inside in
     let words = (arc_value old.shared).table in
     let same : c.deref.result.now.table ≡ words = search rules in
-    let home = may_own-kept words old.last old.main old.main old.main old.volumes.items old.control c.self.invariant
-    c.args.cpu (omega (arith, c.if-at-len.false, c.len.ensures, c.self.invariant.one_each)) c.take_kept-volume.result
+    let home = may_own-kept words old.last old.main old.main old.main old.volumes.items old.control c.self.invariant.kept
+    c.args.cpu (omega (arith, c.if-at-len.false, c.len.ensures, c.self.invariant.kept.one_each)) c.take_kept-volume.result
     c.take_kept-volume.ensures.value in
     home.free
 
@@ -43,8 +46,8 @@ cpu_pass-pass-requires-clause-volume c =
     let old = c.self.inside in
     let words = (arc_value old.shared).table in
     let same : c.deref.result.now.table ≡ words = search rules in
-    let home = may_own-kept words old.last old.main old.main old.main old.volumes.items old.control c.self.invariant
-    c.args.cpu (omega (arith, c.if-at-len.false, c.len.ensures, c.self.invariant.one_each)) c.take_kept-volume.result
+    let home = may_own-kept words old.last old.main old.main old.main old.volumes.items old.control c.self.invariant.kept
+    c.args.cpu (omega (arith, c.if-at-len.false, c.len.ensures, c.self.invariant.kept.one_each)) c.take_kept-volume.result
     c.take_kept-volume.ensures.value in
     subst (λ (w : Shared Facts). HoldsSpending w.facts.layout old.main.seen c.args.cpu.number c.take_kept-volume.result)
     (sym same) home.holds

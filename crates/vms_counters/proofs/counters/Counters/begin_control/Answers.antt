@@ -6,5 +6,9 @@ use Rattle.vms_counters.proofs.counters.Counters.begin_control.Goals as goal
 pub invariant_of-self : goal.invariant_of-self
 invariant_of-self c =
     let old = c.self.inside in
-    kept-begun_control (arc_value old.shared).table old.last c.control_pass-pass.new.main old.main
-    c.control_pass-pass.result old.volumes.items old.control c.self.invariant c.control_pass-pass.ensures.begun
+    record {
+      kept = kept-begun_control (arc_value old.shared).table old.last c.control_pass-pass.new.main old.main
+          c.control_pass-pass.result old.volumes.items old.control c.self.invariant.kept
+          c.control_pass-pass.ensures.begun;
+      valid = c.self.invariant.valid;
+    }

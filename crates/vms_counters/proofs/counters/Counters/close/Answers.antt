@@ -15,7 +15,7 @@ close_table-requires-clause-ended c =
     let yes : c.all_kept.result ≡ true = search rules in
     let same : c.as_slice.result.now ≡ old.volumes.items = search rules in
     none-live-kept (arc_value old.shared).table old.last old.main old.volumes.items
-    (subst (AreKept (arc_value old.shared).table old.last old.main old.volumes.items) control c.self.invariant)
+    (subst (AreKept (arc_value old.shared).table old.last old.main old.volumes.items) control c.self.invariant.kept)
     (subst (All IsSome) same (c.all_kept.ensures.0 yes))
 
 pub returns-in-Ok-clause-ok : goal.returns-in-Ok-clause-ok

@@ -12,7 +12,7 @@ index_mut-requires c =
     let pass = c.handle.inside.pass in
     let below : c.holds_spending-cpu.result.number < length old.volumes.items =
     known-ended (arc_value old.shared).table old.last c.join_cpu-volume.new.main old.main pass.pass old.volumes.items
-    old.control c.self.invariant c.holds_spending-cpu.result pass.volume c.holds_spending-cpu.ensures
+    old.control c.self.invariant.kept c.holds_spending-cpu.result pass.volume c.holds_spending-cpu.ensures
     (ap (λ (h : AnyHandle). h.pass.facts) c.handle.view_is ∙ c.requires.facts
     ∙ sym (ap (λ (o : Opened). o.main.facts) c.self.view_is)) in
     let long : length old.volumes.items ≡ old.volumes.len = search rules in
@@ -23,9 +23,12 @@ invariant_of-self c =
     let old = c.self.inside in
     let pass = c.handle.inside.pass in
     let kept = kept-ended (arc_value old.shared).table old.last c.join_cpu-volume.new.main old.main pass.pass
-    old.volumes.items old.control c.self.invariant c.holds_spending-cpu.result pass.volume c.holds_spending-cpu.ensures
+    old.volumes.items old.control c.self.invariant.kept c.holds_spending-cpu.result pass.volume c.holds_spending-cpu.ensures
     (ap (λ (h : AnyHandle). h.pass.facts) c.handle.view_is ∙ c.requires.facts
     ∙ sym (ap (λ (o : Opened). o.main.facts) c.self.view_is)) c.join_cpu-volume.ensures.ended in
-    subst (λ (volume : List ℕ). AreKept (arc_value old.shared).table old.last c.join_cpu-volume.new.main
-    (set old.volumes.items c.holds_spending-cpu.result.number (Some volume)) old.control)
-    (sym c.join_cpu-volume.ensures.volume) kept
+    record {
+      kept = subst (λ (volume : List ℕ). AreKept (arc_value old.shared).table old.last c.join_cpu-volume.new.main
+          (set old.volumes.items c.holds_spending-cpu.result.number (Some volume)) old.control)
+          (sym c.join_cpu-volume.ensures.volume) kept;
+      valid = c.self.invariant.valid;
+    }

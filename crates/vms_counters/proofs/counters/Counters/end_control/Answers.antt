@@ -9,8 +9,11 @@ use Rattle.vms_counters.proofs.counters.Counters.end_control.Goals as goal
 pub invariant_of-self : goal.invariant_of-self
 invariant_of-self c =
     let old = c.self.inside in
-    kept-ended_control (arc_value old.shared).table old.last c.join_control.new.main old.main c.handle.inside.pass
-    old.volumes.items old.control c.self.invariant c.is_live.ensures
-    (ap (λ (h : AnyHandle). h.pass.facts) c.handle.view_is ∙ c.requires.facts
-    ∙ sym (ap (λ (o : Opened). o.main.facts) c.self.view_is))
-    c.join_control.ensures.ended c.handle.invariant.owns_none
+    record {
+      kept = kept-ended_control (arc_value old.shared).table old.last c.join_control.new.main old.main
+          c.handle.inside.pass old.volumes.items old.control c.self.invariant.kept c.is_live.ensures
+          (ap (λ (h : AnyHandle). h.pass.facts) c.handle.view_is ∙ c.requires.facts
+          ∙ sym (ap (λ (o : Opened). o.main.facts) c.self.view_is))
+          c.join_control.ensures.ended c.handle.invariant.owns_none;
+      valid = c.self.invariant.valid;
+    }
