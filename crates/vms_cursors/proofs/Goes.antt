@@ -4,7 +4,7 @@ use Rattle.vms_calls.specs.Common.{Step}
 use Rattle.vms_plans.specs.declared.due_steps.DueStep.{DueStep}
 use Rattle.vms_plans.specs.Common.{Fits, Plan, Runs, and_then, ends, waits}
 use Rattle.vms_plans.proofs.PlanLaws.{runs-answering, told-answering}
-use Rattle.vms_cursors.specs.Cursors.{GoesOn, HasEnded, IsDue, Stops}
+use Rattle.vms_cursors.specs.Cursors.{GoesOn, HasEnded, IsDue, IsSame, Stops}
 
 pub waits-due : {A : Type 0} (due : DueStep) (next : Step → Plan A) → IsDue (waits due next) due
 waits-due due next = ((λ step steps answer run. run.0), (λ answer run. run))
@@ -18,6 +18,10 @@ waits-goes due next told step fits same =
 pub waits-stops : {A : Type 0} (due : DueStep) (next : Step → Plan A) (step : Step) → (Fits due step → ⊥)
     → Stops (waits due next) step
 waits-stops due next step other = λ steps answer run. other run.0
+
+-- plans that are the same have the same runs
+pub same-runs : {A : Type 0} (plan other : Plan A) → plan ≡ other → IsSame plan other
+same-runs plan other same = subst (λ x. IsSame plan x) same (λ steps answer. ((λ run. run), (λ run. run)))
 
 pub ends-stops : {A : Type 0} (a : A) (step : Step) → Stops (ends a) step
 ends-stops a step = λ steps answer run. run

@@ -5,3 +5,8 @@ pub mod SnapshotGoes
 pub mod TestGoes
 pub mod LoadGoes
 pub mod CursorGoes
+pub mod PlanEquations
+pub mod FoldPlans
+pub mod FoldGoes
+pub mod TakenTotals
+pub mod LayoutGroups

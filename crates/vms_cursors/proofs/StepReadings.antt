@@ -5,12 +5,12 @@ use Rattle.std.proofs.Math.Dec.{T_prop}
 use Rattle.std.proofs.lemmas.Bool.{and_parts, eq-eqb, eqb-true}
 use Rattle.std.specs.Prelude.{Some, None}
 use Rattle.vms_calls.specs.Common.{AreBytes, AddG, AddS, CounterId, CpuId, CpuState, Diffs, GroupId, ItemId, LoadD}
-use Rattle.vms_calls.specs.Common.{LoadG, LoadO, LoadM, LoadS, LoadT, MarkRead, Miss, PlaceId, Step}
+use Rattle.vms_calls.specs.Common.{LoadG, LoadO, LoadM, LoadS, LoadT, MarkRead, Miss, PlaceId, SetA, Step, Take}
 use Rattle.vms_plans.specs.declared.due_steps.DueStep.TheVariants.{LoadsGroup, LoadsMark, LoadsState, LoadsSystem}
-use Rattle.vms_plans.specs.declared.due_steps.DueStep.TheVariants.{LoadsThreshold, LoadsValue}
+use Rattle.vms_plans.specs.declared.due_steps.DueStep.TheVariants.{LoadsThreshold, LoadsValue, Takes}
 use Rattle.vms_plans.specs.Common.{Fits}
 use Rattle.vms_cursors.specs.StepReadings.{added_in, added_to_item_in, group_in, mark_in, missed_in, state_in}
-use Rattle.vms_cursors.specs.StepReadings.{system_in, threshold_in, value_in}
+use Rattle.vms_cursors.specs.StepReadings.{acknowledged_in, number_in, system_in, taken_in, threshold_in, value_in}
 
 choice-some : {X : Type 0} (b : Bool) (x y : X) → (if b then Some x else None) ≡ Some y → (b ≡ true) × (x ≡ y)
 choice-some true x y is = (refl, cc)
@@ -170,6 +170,49 @@ pub system-other : (i : ItemId) (step : Step) → system_in i.number step ≡ No
 system-other i (LoadS l u) none fits = choice-none (nat_eq l.number i.number) u none
     (eq-eqb l.number i.number (ap (λ (x : ItemId). x.number) (sym fits)))
 system-other i step none fits = fits
+
+pub number-read : (g : PlaceId) (step : Step) (a : ℕ) → number_in g.number step ≡ Some a
+    → (t : ℕ) × (LoadT g t a ≡ step)
+number-read g (LoadT f t b) a is =
+    let parts = choice-some (nat_eq f.number g.number) b a is in
+    (t, ap (λ x. LoadT x t a) (sym (place-same f g parts.0)) ∙ ap (LoadT f t) (sym parts.1))
+number-read g step a is = absurd (none-some a is)
+
+pub number-other : (g : PlaceId) (step : Step) → number_in g.number step ≡ None
+    → Fits (LoadsThreshold g) step → ⊥
+number-other g (LoadT f u a) none fits = choice-none (nat_eq f.number g.number) a none
+    (eq-eqb f.number g.number (ap (λ (x : PlaceId). x.number) (sym fits)))
+number-other g step none fits = fits
+
+pub acknowledged-read : (g : PlaceId) (step : Step) (a : ℕ) → acknowledged_in g.number step ≡ Some a
+    → SetA g a ≡ step
+acknowledged-read g (SetA f b) a is =
+    let parts = choice-some (nat_eq f.number g.number) b a is in
+    ap (λ x. SetA x a) (sym (place-same f g parts.0)) ∙ ap (SetA f) (sym parts.1)
+acknowledged-read g step a is = absurd (none-some a is)
+
+pub acknowledged-other : (g : PlaceId) (step : Step) → acknowledged_in g.number step ≡ None → (a : ℕ)
+    → SetA g a ≡ step → ⊥
+acknowledged-other g (SetA f b) none a same = choice-none (nat_eq f.number g.number) b none
+    (let there : g ≡ f = cc in eq-eqb f.number g.number (ap (λ (x : PlaceId). x.number) (sym there)))
+acknowledged-other g step none a same = cc
+
+pub taken-read : (c : CpuId) (j : GroupId) (step : Step) (w : Diffs) → taken_in c.number j.number step ≡ Some w
+    → Take c j w ≡ step
+taken-read c j (Take d i v) w is =
+    let parts = choice-some (nat_eq d.number c.number && nat_eq i.number j.number) v w is in
+    let both = and_parts (nat_eq d.number c.number) (nat_eq i.number j.number) parts.0 in
+    ap (λ x. Take x j w) (sym (cpu-same d c both.0)) ∙ ap (λ x. Take d x w) (sym (group-same i j both.1))
+    ∙ ap (Take d i) (sym parts.1)
+taken-read c j step w is = absurd (none-some w is)
+
+pub taken-other : (c : CpuId) (j : GroupId) (step : Step) → taken_in c.number j.number step ≡ None
+    → Fits (Takes c j) step → ⊥
+taken-other c j (Take d i v) none fits =
+    choice-none (nat_eq d.number c.number && nat_eq i.number j.number) v none
+    (ap (λ b. b && nat_eq i.number j.number) (eq-eqb d.number c.number (ap (λ (x : CpuId). x.number) (sym fits.0)))
+    ∙ eq-eqb i.number j.number (ap (λ (x : GroupId). x.number) (sym fits.1)))
+taken-other c j step none fits = fits
 
 -- lists of the same entries are one
 are_bytes-prop : (values : List ℤ) → IsProp (AreBytes values)

@@ -7,11 +7,12 @@ use Rattle.vms_calls.specs.declared.page_calls.PageCall.{PageCall}
 use Rattle.vms_calls.specs.declared.page_calls.PageCall.TheVariants as call
 use Rattle.vms_plans.specs.Common.{Plan, answering}
 use Rattle.vms_cursors.specs.Changes.{change_at}
+use Rattle.vms_cursors.specs.Folds.{IsFoldWithin, fold_at}
 use Rattle.vms_cursors.specs.Loads.{load_answer, system_at, value_at}
 use Rattle.vms_cursors.specs.Snapshots.{snapshot_answer, snapshot_at}
 use Rattle.vms_cursors.specs.Tests.{test_answer, test_at}
 use Rattle.vms_cursors.specs.declared.cursors.Cursor.{Cursor}
-use Rattle.vms_cursors.specs.declared.cursors.Cursor.TheVariants.{Change, Value, System, Snapshot, Test}
+use Rattle.vms_cursors.specs.declared.cursors.Cursor.TheVariants.{Change, Value, System, Snapshot, Test, Fold}
 
 abbrev pub cursor_at : Header → Cursor → Plan PageAnswer
 cursor_at header (Change change at) = answering (λ made. answer.Done) (change_at header.layout change at)
@@ -20,6 +21,7 @@ cursor_at header (System i at) = answering (λ pages. answer.System pages) (syst
 cursor_at header (Snapshot k at) = answering (λ pages. answer.Snapshot pages) (snapshot_at header.layout k at)
 cursor_at header (Test g mark most at) =
     answering (λ verdict. answer.Tested verdict) (test_at header g mark most at)
+cursor_at header (Fold fold at) = answering (λ made. answer.Done) (fold_at header.layout fold at)
 
 -- the answer where the call has ended
 abbrev pub answer_of : Header → Cursor → PageAnswer
@@ -28,12 +30,14 @@ answer_of header (Value k at) = answer.Value (load_answer at)
 answer_of header (System i at) = answer.System (load_answer at)
 answer_of header (Snapshot k at) = answer.Snapshot (snapshot_answer at)
 answer_of header (Test g mark most at) = answer.Tested (test_answer header g mark most at)
+answer_of header (Fold fold at) = answer.Done
 
 -- the call is on a counter or a zone of the layout
 abbrev pub IsWithin : Shape → Cursor → Type 0
 IsWithin shape (Change change at) = IsCounter shape change.counter.number
 IsWithin shape (Snapshot k at) = IsCounter shape k.number
 IsWithin shape (Test g mark most at) = IsZone shape g.number
+IsWithin shape (Fold fold at) = IsFoldWithin shape at
 IsWithin shape _ = Unit {0}
 
 -- a change is by no more than the volume of a CPU
@@ -48,7 +52,8 @@ IsCallWithin shape (call.Snapshot k) = IsCounter shape k.number
 IsCallWithin shape (call.Test g mark most) = IsZone shape g.number
 IsCallWithin shape _ = Unit {0}
 
--- there is a cursor for a call by a pass that owns a CPU or none: for a change by an owner, and for looks and tests
+-- there is a cursor for a call by a pass that owns a CPU or none: for a change by an owner, and for looks, tests
+-- and folds
 abbrev pub has_cursor : Option CpuId → PageCall → Bool
 has_cursor None (call.Change k delta how) = false
 has_cursor owner (call.Change k delta how) = true
@@ -56,4 +61,5 @@ has_cursor owner (call.Value k) = true
 has_cursor owner (call.System i) = true
 has_cursor owner (call.Snapshot k) = true
 has_cursor owner (call.Test g mark most) = true
+has_cursor owner (call.Fold c) = true
 has_cursor owner _ = false

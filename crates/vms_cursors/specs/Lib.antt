@@ -5,3 +5,5 @@ pub mod Snapshots
 pub mod Tests
 pub mod Loads
 pub mod Calls
+pub mod Totals
+pub mod Folds

@@ -1,7 +1,7 @@
 -- What a step tells where it is of one kind and acts on one place: none where it is another.
 use Rattle.std.specs.Prelude.{ℕ, nat_eq, ◌&&◌, ℤ, Option, Some, None, if◌then◌else◌}
-use Rattle.vms_calls.specs.Common.{AddG, AddS, CpuState, Diffs, LoadD, LoadG, LoadM, LoadO, LoadS, LoadT, MarkRead}
-use Rattle.vms_calls.specs.Common.{Miss, Step}
+use Rattle.vms_calls.specs.Common.{AddG, AddS, CpuState, Diffs, LoadD, LoadG, LoadM, LoadO, LoadS, LoadT, MarkRead, SetA}
+use Rattle.vms_calls.specs.Common.{Miss, Step, Take}
 
 -- a load of the own threshold of place g, and of the list of a CPU in group j
 abbrev pub threshold_in : ℕ → Step → Option ℕ
@@ -44,3 +44,17 @@ mark_in g _ = None
 abbrev pub system_in : ℕ → Step → Option ℤ
 system_in i (LoadS l v) = if nat_eq l.number i then Some v else None
 system_in i _ = None
+
+-- the number of the own threshold of place g that is loaded, and that is acknowledged
+abbrev pub number_in : ℕ → Step → Option ℕ
+number_in g (LoadT f t a) = if nat_eq f.number g then Some a else None
+number_in g _ = None
+
+abbrev pub acknowledged_in : ℕ → Step → Option ℕ
+acknowledged_in g (SetA f a) = if nat_eq f.number g then Some a else None
+acknowledged_in g _ = None
+
+-- the list of a CPU that is taken from group j
+abbrev pub taken_in : (c j : ℕ) → Step → Option Diffs
+taken_in c j (Take d i w) = if nat_eq d.number c && nat_eq i.number j then Some w else None
+taken_in c j _ = None

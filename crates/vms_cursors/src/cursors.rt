@@ -1,16 +1,19 @@
 ghost use Rattle.std.specs.Prelude.{◌≡◌, ℕ, IfSome, IsNone, is_some};
 ghost use Rattle.vms_calls.specs.Common.{Header, History, IsLayout, Shape, State};
+ghost use Rattle.vms_calls.specs.PageCalls.{owns_cpu};
 ghost use Rattle.vms_plans.specs.Common.{plan_of};
 ghost use Rattle.vms_cursors.specs.Cursors.{GoesOn, IsDue, IsSame, HasEnded, Stops};
 ghost use Rattle.vms_cursors.specs.Calls.{IsAffordable, IsCallWithin, IsWithin, answer_of, cursor_at, has_cursor};
 
-use crate::{Change, ChangePosition, LoadPosition, SnapshotPosition, TestPosition};
+use crate::{
+    Change, ChangePosition, Fold, FoldPosition, LoadPosition, SnapshotPosition, Taken, TestPosition,
+};
 use vms_base::{CounterId, CpuId, ItemId, Layout, PlaceId, WaterMark};
 use vms_calls::{PageCall, ThresholdRules};
 use vms_core::Step;
 use vms_plans::DueStep;
 
-/// A change, a look or a test that is under way: which call it is, and where it stands.
+/// A change, a look, a test or a fold that is under way: which call it is, and where it stands.
 #[derive(Clone, Copy, Debug, PartialEq, Eq)]
 pub enum Cursor {
     Change(Change, ChangePosition),
@@ -19,6 +22,7 @@ pub enum Cursor {
     Snapshot(CounterId, SnapshotPosition),
     /// With the watermark and the highest zone index, by which the test answers.
     Test(PlaceId, WaterMark, u32, TestPosition),
+    Fold(Fold, FoldPosition),
 }
 
 impl Cursor {
@@ -51,6 +55,13 @@ impl Cursor {
             PageCall::Test(zone, mark, most) => {
                 Some(Cursor::Test(zone, mark, most, TestPosition::Begun))
             }
+            PageCall::Fold(cpu) => Some(Cursor::Fold(
+                Fold {
+                    cpu,
+                    is_own: owns_cpu(owner, cpu),
+                },
+                FoldPosition::Places(Taken::nothing(), 0),
+            )),
             _ => None,
         }
     }
@@ -70,6 +81,7 @@ impl Cursor {
             Cursor::System(item, at) => at.due_system(item),
             Cursor::Snapshot(counter, at) => at.due(counter, layout),
             Cursor::Test(zone, _, _, at) => at.due(layout, zone),
+            Cursor::Fold(fold, at) => at.due(fold, layout),
         }
     }
 
@@ -104,6 +116,20 @@ impl Cursor {
                 Some(later) => Some(Cursor::Test(zone, mark, most, later)),
                 None => None,
             },
+            Cursor::Fold(fold, at) => match at.next(fold, layout, step) {
+                Some(later) => Some(Cursor::Fold(fold, later)),
+                None => None,
+            },
         }
+    }
+}
+
+/// Whether a pass that owns a CPU, or none, owns this one.
+fn owns_cpu(owner: Option<CpuId>, cpu: CpuId) -> bool
+    ensures { result ≡ owns_cpu owner cpu }
+{
+    match owner {
+        Some(own) => own.number == cpu.number,
+        None => false,
     }
 }

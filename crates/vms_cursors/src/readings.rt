@@ -124,3 +124,34 @@ pub fn same_list(first: Diffs, second: Diffs) -> bool
 {
     first.values == second.values
 }
+
+/// What a step tells as a load of the own threshold of a place: how often it was set.
+pub fn number_in(place: PlaceId, step: Step) -> Option<u32>
+    ensures { result ≡ told.number_in place.number step }
+{
+    match step {
+        Step::LoadT(of, _, number) if of.number == place.number => Some(number),
+        _ => None,
+    }
+}
+
+/// What a step acknowledges of a place: how often its threshold was set.
+pub fn acknowledged_in(place: PlaceId, step: Step) -> Option<u32>
+    ensures { result ≡ told.acknowledged_in place.number step }
+{
+    match step {
+        Step::SetA(of, number) if of.number == place.number => Some(number),
+        _ => None,
+    }
+}
+
+/// What a step tells as a take of a CPU's differentials of a group.
+pub fn taken_in(cpu: CpuId, group: GroupId, step: Step) -> Option<Diffs>
+    ensures { result ≡ told.taken_in cpu.number group.number step }
+{
+    match step {
+        Step::Take(of, taken, list) if of.number == cpu.number && taken.number == group.number =>
+            Some(list),
+        _ => None,
+    }
+}

@@ -5,10 +5,11 @@ use Rattle.vms_calls.specs.Common.{Shape}
 use Rattle.vms_calls.specs.declared.page_calls.PageAnswer.TheVariants as answer
 use Rattle.vms_cursors.specs.Changes.{change_at}
 use Rattle.vms_cursors.specs.Cursors.{HasEnded, IsDue}
+use Rattle.vms_cursors.specs.Folds.{fold_at}
 use Rattle.vms_cursors.specs.Loads.{system_at, value_at}
 use Rattle.vms_cursors.specs.Snapshots.{snapshot_answer, snapshot_at}
 use Rattle.vms_cursors.specs.Tests.{test_answer, test_at}
-use Rattle.vms_cursors.specs.declared.cursors.Cursor.TheVariants.{Change, Value, System, Snapshot, Test}
+use Rattle.vms_cursors.specs.declared.cursors.Cursor.TheVariants.{Change, Value, System, Snapshot, Test, Fold}
 use Rattle.vms_cursors.proofs.CursorGoes.{due-as, ended-as, some-due}
 use Rattle.vms_cursors.proofs.Goes.{answering-ended}
 use Rattle.vms_cursors.proofs.cursors.Cursor.due.Goals as goal
@@ -65,3 +66,17 @@ returns-in-Test-clause-ended c = λ header same none.
     (test_at header c.in-Test.zone c.in-Test.field-1 c.in-Test.field-2 c.in-Test.at)
     (test_answer header c.in-Test.zone c.in-Test.field-1 c.in-Test.field-2 c.in-Test.at)
     (c.due-in-Test.ensures.ended header c.in-Test.field-1 c.in-Test.field-2 same none))
+
+pub returns-in-Fold-clause-due : goal.returns-in-Fold-clause-due
+returns-in-Fold-clause-due c = λ header same.
+    due-as header c.args.self (Fold c.in-Fold.fold c.in-Fold.at) c.in-Fold.is c.due-in-Fold.result
+    (some-due (λ made. answer.Done) (fold_at header.layout c.in-Fold.fold c.in-Fold.at) c.due-in-Fold.result
+    (subst (λ (s : Shape). IfSome c.due-in-Fold.result (λ d. IsDue (fold_at s c.in-Fold.fold c.in-Fold.at) d))
+    (sym same) c.due-in-Fold.ensures.due))
+
+pub returns-in-Fold-clause-ended : goal.returns-in-Fold-clause-ended
+returns-in-Fold-clause-ended c = λ header same none.
+    ended-as header c.args.self (Fold c.in-Fold.fold c.in-Fold.at) c.in-Fold.is
+    (answering-ended (λ made. answer.Done) (fold_at header.layout c.in-Fold.fold c.in-Fold.at) (tt {0})
+    (subst (λ (s : Shape). HasEnded (fold_at s c.in-Fold.fold c.in-Fold.at) (tt {0})) (sym same)
+    (c.due-in-Fold.ensures.ended none)))

@@ -4,10 +4,11 @@ use Rattle.vms_calls.specs.Common.{Shape}
 use Rattle.vms_calls.specs.declared.page_calls.PageAnswer.TheVariants as answer
 use Rattle.vms_cursors.specs.Changes.{change_at}
 use Rattle.vms_cursors.specs.Cursors.{GoesOn, Stops}
+use Rattle.vms_cursors.specs.Folds.{fold_at}
 use Rattle.vms_cursors.specs.Loads.{system_at, value_at}
 use Rattle.vms_cursors.specs.Snapshots.{snapshot_at}
 use Rattle.vms_cursors.specs.Tests.{test_at}
-use Rattle.vms_cursors.specs.declared.cursors.Cursor.TheVariants.{Change, Value, System, Snapshot, Test}
+use Rattle.vms_cursors.specs.declared.cursors.Cursor.TheVariants.{Change, Value, System, Snapshot, Test, Fold}
 use Rattle.vms_cursors.proofs.CursorGoes.{goes-as, stops-as}
 use Rattle.vms_cursors.proofs.Goes.{answering-goes, answering-stops}
 use Rattle.vms_cursors.proofs.cursors.Cursor.next.Goals as goal
@@ -81,3 +82,19 @@ returns-in-None-next-2-clause-stops c = λ header same none.
     stops-as header c.args.self (Test c.in-Test.zone c.in-Test.mark c.in-Test.most c.in-Test.at) c.in-Test.is c.args.step
     (answering-stops (λ verdict. answer.Tested verdict) (test_at header c.in-Test.zone c.in-Test.mark c.in-Test.most c.in-Test.at) c.args.step
     (c.in-None-next-2.ensures.stops header c.in-Test.mark c.in-Test.most same none))
+
+pub returns-in-Some-next-3-clause-goes : goal.returns-in-Some-next-3-clause-goes
+returns-in-Some-next-3-clause-goes c = λ header same.
+    goes-as header c.args.self (Fold c.in-Fold.fold c.in-Fold.at) c.in-Fold.is c.args.step
+    (Fold c.in-Fold.fold c.in-Some-next-3.later)
+    (answering-goes (λ made. answer.Done) (fold_at header.layout c.in-Fold.fold c.in-Fold.at)
+    (fold_at header.layout c.in-Fold.fold c.in-Some-next-3.later) c.args.step
+    (subst (λ (s : Shape). GoesOn (fold_at s c.in-Fold.fold c.in-Fold.at) c.args.step
+    (fold_at s c.in-Fold.fold c.in-Some-next-3.later)) (sym same) c.in-Some-next-3.ensures.goes))
+
+pub returns-in-None-next-3-clause-stops : goal.returns-in-None-next-3-clause-stops
+returns-in-None-next-3-clause-stops c = λ header same none.
+    stops-as header c.args.self (Fold c.in-Fold.fold c.in-Fold.at) c.in-Fold.is c.args.step
+    (answering-stops (λ made. answer.Done) (fold_at header.layout c.in-Fold.fold c.in-Fold.at) c.args.step
+    (subst (λ (s : Shape). Stops (fold_at s c.in-Fold.fold c.in-Fold.at) c.args.step) (sym same)
+    (c.in-None-next-3.ensures.stops none)))
