@@ -15,6 +15,13 @@ pub waits-goes : {A : Type 0} (due : DueStep) (next : Step → Plan A) (told ste
 waits-goes due next told step fits same =
     subst (λ s. GoesOn (waits due next) s (next told)) same (λ steps answer. ((λ run. run.1), (λ run. (fits, run))))
 
+-- where what follows depends on the step in another way too
+pub waits-goes_to : {A : Type 0} (due : DueStep) (next : Step → Plan A) (told step : Step) (later : Step → Plan A)
+    → Fits due told → told ≡ step → next told ≡ later told → GoesOn (waits due next) step (later step)
+waits-goes_to due next told step later fits same is =
+    subst (λ s. GoesOn (waits due next) s (later s)) same
+    (subst (λ x. GoesOn (waits due next) told x) is (λ steps answer. ((λ run. run.1), (λ run. (fits, run)))))
+
 pub waits-stops : {A : Type 0} (due : DueStep) (next : Step → Plan A) (step : Step) → (Fits due step → ⊥)
     → Stops (waits due next) step
 waits-stops due next step other = λ steps answer run. other run.0
@@ -45,6 +52,16 @@ module _ {A B : Type 0} (tell : A → B) where
   pub answering-stops : (plan : Plan A) (step : Step) → Stops plan step → Stops (told plan) step
   answering-stops plan step stops steps b run =
       let found = told-answering plan tell (step ∷ steps) b run in stops steps found.0 found.1
+
+  pub answering-same : (plan other : Plan A) → IsSame plan other → IsSame (told plan) (told other)
+  answering-same plan other same steps b = (
+    (λ run. let found = told-answering plan tell steps b run in
+        subst (Runs (told other) steps) found.2
+        (runs-answering other tell steps found.0 ((same steps found.0).0 found.1))),
+    (λ run. let found = told-answering other tell steps b run in
+        subst (Runs (told plan) steps) found.2
+        (runs-answering plan tell steps found.0 ((same steps found.0).1 found.1))),
+  )
 
   pub answering-due : (plan : Plan A) (due : DueStep) → IsDue plan due → IsDue (told plan) due
   answering-due plan due is = (

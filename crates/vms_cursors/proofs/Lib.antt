@@ -10,3 +10,9 @@ pub mod FoldPlans
 pub mod FoldGoes
 pub mod TakenTotals
 pub mod LayoutGroups
+pub mod FlaggedCpus
+pub mod RatingPlans
+pub mod RatingGoes
+pub mod RatingAlong
+pub mod RatingBegins
+pub mod CursorBegins

@@ -6,7 +6,7 @@ use Rattle.vms_calls.specs.Common.{Step}
 use Rattle.vms_plans.specs.declared.due_steps.DueStep.{DueStep}
 use Rattle.vms_plans.specs.declared.due_steps.DueStep.TheVariants.{Makes}
 use Rattle.vms_plans.specs.Common.{Plan, and_then, asks, ends, makes_all, refuses, waits}
-use Rattle.vms_cursors.specs.Cursors.{GoesOn, HasEnded, IsDue, Stops}
+use Rattle.vms_cursors.specs.Cursors.{GoesOn, HasEnded, IsDue, IsSame, Stops}
 
 pub and_then-assoc : {A B C : Type 0} (plan : Plan A) (f : A → Plan B) (g : B → Plan C)
     → and_then (and_then plan f) g ≡ and_then plan (λ a. and_then (f a) g)
@@ -47,3 +47,30 @@ module _ {A : Type 0} where
       → IfSome due (λ d. IsDue plan d) → IfSome due (λ d. IsDue other d)
   some_due-along plan other same None is = is
   some_due-along plan other same (Some d) is = due-along plan other d same is
+
+  -- and so do plans that have the same runs
+  pub same-both : (plan other last : Plan A) → IsSame plan other → IsSame other last → IsSame plan last
+  same-both plan other last first second = λ steps answer. (
+    (λ run. (second steps answer).0 ((first steps answer).0 run)),
+    (λ run. (first steps answer).1 ((second steps answer).1 run)),
+  )
+
+  pub same-goes : (plan other : Plan A) (step : Step) (later : Plan A) → IsSame plan other → GoesOn other step later
+      → GoesOn plan step later
+  same-goes plan other step later same goes = λ steps answer. (
+    (λ run. (goes steps answer).0 ((same (step ∷ steps) answer).0 run)),
+    (λ run. (same (step ∷ steps) answer).1 ((goes steps answer).1 run)),
+  )
+
+  pub same-stops : (plan other : Plan A) (step : Step) → IsSame plan other → Stops other step → Stops plan step
+  same-stops plan other step same stops = λ steps answer run.
+      stops steps answer ((same (step ∷ steps) answer).0 run)
+
+  pub same-due : (plan other : Plan A) (due : DueStep) → IsSame plan other → IsDue other due → IsDue plan due
+  same-due plan other due same is = (
+    (λ step steps answer run. is.0 step steps answer ((same (step ∷ steps) answer).0 run)),
+    (λ answer run. is.1 answer ((same [] answer).0 run)),
+  )
+
+  pub same-ended : (plan other : Plan A) (a : A) → IsSame plan other → HasEnded other a → HasEnded plan a
+  same-ended plan other a same ended = (same [] a).1 ended

@@ -3,14 +3,14 @@ use Rattle.std.proofs.Common.{◌≡◌, ℕ, nat_eq, ◌&&◌, Bool, true, fals
 use Rattle.std.proofs.Common.{if◌then◌else◌}
 use Rattle.std.proofs.Math.Dec.{T_prop}
 use Rattle.std.proofs.lemmas.Bool.{and_parts, eq-eqb, eqb-true}
-use Rattle.std.specs.Prelude.{Some, None}
+use Rattle.std.specs.Prelude.{Option, Some, None}
 use Rattle.vms_calls.specs.Common.{AreBytes, AddG, AddS, CounterId, CpuId, CpuState, Diffs, GroupId, ItemId, LoadD}
-use Rattle.vms_calls.specs.Common.{LoadG, LoadO, LoadM, LoadS, LoadT, MarkRead, Miss, PlaceId, SetA, Step, Take}
-use Rattle.vms_plans.specs.declared.due_steps.DueStep.TheVariants.{LoadsGroup, LoadsMark, LoadsState, LoadsSystem}
+use Rattle.vms_calls.specs.Common.{LoadG, LoadO, LoadM, LoadS, LoadT, MarkRead, Miss, PlaceId, SetA, SetM, SetT, Step, Take, LoadA}
+use Rattle.vms_plans.specs.declared.due_steps.DueStep.TheVariants.{LoadsAcknowledged, LoadsGroup, LoadsMark, LoadsState, LoadsSystem}
 use Rattle.vms_plans.specs.declared.due_steps.DueStep.TheVariants.{LoadsThreshold, LoadsValue, Takes}
 use Rattle.vms_plans.specs.Common.{Fits}
 use Rattle.vms_cursors.specs.StepReadings.{added_in, added_to_item_in, group_in, mark_in, missed_in, state_in}
-use Rattle.vms_cursors.specs.StepReadings.{acknowledged_in, number_in, system_in, taken_in, threshold_in, value_in}
+use Rattle.vms_cursors.specs.StepReadings.{acknowledged_in, number_in, number_told_in, set_mark_in, set_threshold_in, system_in, taken_in, threshold_in, value_in}
 
 choice-some : {X : Type 0} (b : Bool) (x y : X) → (if b then Some x else None) ≡ Some y → (b ≡ true) × (x ≡ y)
 choice-some true x y is = (refl, cc)
@@ -213,6 +213,59 @@ taken-other c j (Take d i v) none fits =
     (ap (λ b. b && nat_eq i.number j.number) (eq-eqb d.number c.number (ap (λ (x : CpuId). x.number) (sym fits.0)))
     ∙ eq-eqb i.number j.number (ap (λ (x : GroupId). x.number) (sym fits.1)))
 taken-other c j step none fits = fits
+
+pub number_told-read : (c : CpuId) (g : PlaceId) (step : Step) (x : Option ℕ)
+    → number_told_in c.number g.number step ≡ Some x → LoadA c g x ≡ step
+number_told-read c g (LoadA d f y) x is =
+    let parts = choice-some (nat_eq d.number c.number && nat_eq f.number g.number) y x is in
+    let both = and_parts (nat_eq d.number c.number) (nat_eq f.number g.number) parts.0 in
+    ap (λ e. LoadA e g x) (sym (cpu-same d c both.0)) ∙ ap (λ e. LoadA d e x) (sym (place-same f g both.1))
+    ∙ ap (LoadA d f) (sym parts.1)
+number_told-read c g step x is = absurd (none-some x is)
+
+pub number_told-other : (c : CpuId) (g : PlaceId) (step : Step) → number_told_in c.number g.number step ≡ None
+    → Fits (LoadsAcknowledged c g) step → ⊥
+number_told-other c g (LoadA d f y) none fits =
+    choice-none (nat_eq d.number c.number && nat_eq f.number g.number) y none
+    (ap (λ b. b && nat_eq f.number g.number) (eq-eqb d.number c.number (ap (λ (x : CpuId). x.number) (sym fits.0)))
+    ∙ eq-eqb f.number g.number (ap (λ (x : PlaceId). x.number) (sym fits.1)))
+number_told-other c g step none fits = fits
+
+pub set_mark-read : (g : PlaceId) (step : Step) (m : ℕ) → set_mark_in g.number step ≡ Some m → SetM g m ≡ step
+set_mark-read g (SetM f n) m is =
+    let parts = choice-some (nat_eq f.number g.number) n m is in
+    ap (λ x. SetM x m) (sym (place-same f g parts.0)) ∙ ap (SetM f) (sym parts.1)
+set_mark-read g step m is = absurd (none-some m is)
+
+pub set_mark-other : (g : PlaceId) (step : Step) → set_mark_in g.number step ≡ None → (m : ℕ) → SetM g m ≡ step → ⊥
+set_mark-other g (SetM f n) none m same = choice-none (nat_eq f.number g.number) n none
+    (let there : g ≡ f = cc in eq-eqb f.number g.number (ap (λ (x : PlaceId). x.number) (sym there)))
+set_mark-other g step none m same = cc
+
+pub set_threshold-read : (c : CpuId) (g : PlaceId) (step : Step) (t : ℕ)
+    → set_threshold_in c.number g.number step ≡ Some t → SetT c g t ≡ step
+set_threshold-read c g (SetT d f u) t is =
+    let parts = choice-some (nat_eq d.number c.number && nat_eq f.number g.number) u t is in
+    let both = and_parts (nat_eq d.number c.number) (nat_eq f.number g.number) parts.0 in
+    ap (λ e. SetT e g t) (sym (cpu-same d c both.0)) ∙ ap (λ e. SetT d e t) (sym (place-same f g both.1))
+    ∙ ap (SetT d f) (sym parts.1)
+set_threshold-read c g step t is = absurd (none-some t is)
+
+pub set_threshold-other : (c : CpuId) (g : PlaceId) (step : Step) → set_threshold_in c.number g.number step ≡ None
+    → (t : ℕ) → SetT c g t ≡ step → ⊥
+set_threshold-other c g (SetT d f u) none t same =
+    choice-none (nat_eq d.number c.number && nat_eq f.number g.number) u none
+    (let cpus : c ≡ d = cc in let places : g ≡ f = cc in
+    ap (λ b. b && nat_eq f.number g.number) (eq-eqb d.number c.number (ap (λ (x : CpuId). x.number) (sym cpus)))
+    ∙ eq-eqb f.number g.number (ap (λ (x : PlaceId). x.number) (sym places)))
+set_threshold-other c g step none t same = cc
+
+-- a set of another number
+pub set_mark-same : (g : PlaceId) (a b : ℕ) → SetM g a ≡ SetM g b → a ≡ b
+set_mark-same g a b same = cc
+
+pub set_threshold-same : (c : CpuId) (g : PlaceId) (a b : ℕ) → SetT c g a ≡ SetT c g b → a ≡ b
+set_threshold-same c g a b same = cc
 
 -- lists of the same entries are one
 are_bytes-prop : (values : List ℤ) → IsProp (AreBytes values)

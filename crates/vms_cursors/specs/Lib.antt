@@ -7,3 +7,7 @@ pub mod Loads
 pub mod Calls
 pub mod Totals
 pub mod Folds
+pub mod OnlineCpus
+pub mod RatingCalls
+pub mod Ratings
+pub mod RatingClauses

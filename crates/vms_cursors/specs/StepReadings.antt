@@ -1,6 +1,6 @@
 -- What a step tells where it is of one kind and acts on one place: none where it is another.
 use Rattle.std.specs.Prelude.{ℕ, nat_eq, ◌&&◌, ℤ, Option, Some, None, if◌then◌else◌}
-use Rattle.vms_calls.specs.Common.{AddG, AddS, CpuState, Diffs, LoadD, LoadG, LoadM, LoadO, LoadS, LoadT, MarkRead, SetA}
+use Rattle.vms_calls.specs.Common.{AddG, AddS, CpuState, Diffs, LoadA, LoadD, LoadG, LoadM, LoadO, LoadS, LoadT, MarkRead, SetA, SetM, SetT}
 use Rattle.vms_calls.specs.Common.{Miss, Step, Take}
 
 -- a load of the own threshold of place g, and of the list of a CPU in group j
@@ -58,3 +58,17 @@ acknowledged_in g _ = None
 abbrev pub taken_in : (c j : ℕ) → Step → Option Diffs
 taken_in c j (Take d i w) = if nat_eq d.number c && nat_eq i.number j then Some w else None
 taken_in c j _ = None
+
+-- what is loaded that a CPU acknowledged last of zone g
+abbrev pub number_told_in : (c g : ℕ) → Step → Option (Option ℕ)
+number_told_in c g (LoadA d f x) = if nat_eq d.number c && nat_eq f.number g then Some x else None
+number_told_in c g _ = None
+
+-- the mark that is set in zone g, and the threshold that is set on a CPU in place g
+abbrev pub set_mark_in : ℕ → Step → Option ℕ
+set_mark_in g (SetM f m) = if nat_eq f.number g then Some m else None
+set_mark_in g _ = None
+
+abbrev pub set_threshold_in : (c g : ℕ) → Step → Option ℕ
+set_threshold_in c g (SetT d f t) = if nat_eq d.number c && nat_eq f.number g then Some t else None
+set_threshold_in c g _ = None

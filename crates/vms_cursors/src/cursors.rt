@@ -1,19 +1,24 @@
-ghost use Rattle.std.specs.Prelude.{◌≡◌, ℕ, IfSome, IsNone, is_some};
-ghost use Rattle.vms_calls.specs.Common.{Header, History, IsLayout, Shape, State};
+ghost use Rattle.std.specs.Prelude.{◌≡◌, ℕ, [], ◌∷◌, IfSome, IsNone, is_some};
+ghost use Rattle.vms_calls.specs.Common.{Header, History, IsLayout, Shape, State, after};
 ghost use Rattle.vms_calls.specs.PageCalls.{owns_cpu};
 ghost use Rattle.vms_plans.specs.Common.{plan_of};
 ghost use Rattle.vms_cursors.specs.Cursors.{GoesOn, IsDue, IsSame, HasEnded, Stops};
-ghost use Rattle.vms_cursors.specs.Calls.{IsAffordable, IsCallWithin, IsWithin, answer_of, cursor_at, has_cursor};
+ghost use Rattle.vms_cursors.specs.Calls.{AnswersCursor, IsAffordable, IsCallWithin, IsCursorAsked, IsReady, IsWithin};
+ghost use Rattle.vms_cursors.specs.Calls.{answer_of, cursor_at, has_cursor, owns_none};
+ghost use Rattle.vms_cursors.specs.declared.cursors.Cursor.TheVariants.{Rates};
+ghost use Rattle.vms_cursors.specs.declared.online_cpus.OnlineCpus.{OnlineCpus};
+ghost use Rattle.vms_cursors.specs.declared.rating_positions.RatingPosition.TheVariants.{States};
 
 use crate::{
-    Change, ChangePosition, Fold, FoldPosition, LoadPosition, SnapshotPosition, Taken, TestPosition,
+    Asked, Change, ChangePosition, Fold, FoldPosition, LoadPosition, OnlineCpus, RatingCall,
+    RatingPosition, SnapshotPosition, Taken, TestPosition,
 };
 use vms_base::{CounterId, CpuId, ItemId, Layout, PlaceId, WaterMark};
-use vms_calls::{PageCall, ThresholdRules};
+use vms_calls::{Chosen, PageCall, ThresholdRules};
 use vms_core::Step;
 use vms_plans::DueStep;
 
-/// A change, a look, a test or a fold that is under way: which call it is, and where it stands.
+/// A call that is under way: which call it is, and where it stands.
 #[derive(Clone, Copy, Debug, PartialEq, Eq)]
 pub enum Cursor {
     Change(Change, ChangePosition),
@@ -23,6 +28,8 @@ pub enum Cursor {
     /// With the watermark and the highest zone index, by which the test answers.
     Test(PlaceId, WaterMark, u32, TestPosition),
     Fold(Fold, FoldPosition),
+    /// A call that gives thresholds to the zones of a node.
+    Rates(RatingCall, RatingPosition),
 }
 
 impl Cursor {
@@ -30,7 +37,8 @@ impl Cursor {
     pub fn begin<R: ThresholdRules>(call: PageCall, owner: Option<CpuId>) -> Option<Cursor>
         requires { IsAffordable call }
         ensures begins { (header : Header) (base : State) (p : ℕ) (h : History) → IfSome result
-            (λ cursor. IsSame (plan_of header base R.pressure R.normal call owner p h) (cursor_at header cursor)) }
+            (λ cursor. IsSame (plan_of header base R.pressure R.normal call owner p h)
+            (cursor_at header base p R.pressure R.normal h cursor)) }
         ensures known { is_some result ≡ has_cursor owner call }
         ensures within { (shape : Shape) → IsCallWithin shape call → IfSome result (λ cursor. IsWithin shape cursor) }
     {
@@ -62,18 +70,55 @@ impl Cursor {
                 },
                 FoldPosition::Places(Taken::nothing(), 0),
             )),
+            PageCall::SetPressure(node) => begin_rating(RatingCall::Pressure(node), owner),
+            PageCall::SetNormal(node) => begin_rating(RatingCall::Normal(node), owner),
             _ => None,
         }
     }
 
+    /// What the rules of thresholds are asked for: none where no rule is asked.
+    pub fn asks(self, layout: &Layout) -> Option<Asked>
+        requires { IsLayout layout.now }
+        ensures asked { IfSome result (λ asked. IsCursorAsked layout.now self asked) }
+        ensures none { IsNone result → IsReady self }
+    {
+        match self {
+            Cursor::Rates(_, at) => at.asks(layout),
+            _ => None,
+        }
+    }
+
+    /// The cursor after the rules chose these thresholds, with the mark that covers the zone then: the same cursor
+    /// where no rule is asked.
+    pub fn answer<R: ThresholdRules>(self, chosen: Chosen, mark: u64) -> Cursor
+        ensures same { (header : Header) (base : State) (p : ℕ) (h : History) →
+            AnswersCursor header base p R.pressure R.normal h self chosen mark →
+            IsSame (cursor_at header base p R.pressure R.normal h self)
+            (cursor_at header base p R.pressure R.normal h result) }
+        ensures ready { IsReady result }
+        ensures within { (shape : Shape) → IsWithin shape self → IsWithin shape result }
+    {
+        match self {
+            Cursor::Rates(call, at) => Cursor::Rates(call, at.answer::<R>(chosen, mark)),
+            Cursor::Change(_, _) => self,
+            Cursor::Value(_, _) => self,
+            Cursor::System(_, _) => self,
+            Cursor::Snapshot(_, _) => self,
+            Cursor::Test(_, _, _, _) => self,
+            Cursor::Fold(_, _) => self,
+        }
+    }
+
     /// The step that is due: none where the call has ended.
-    pub fn due(self, layout: &Layout) -> Option<DueStep>
+    pub fn due<R: ThresholdRules>(self, layout: &Layout) -> Option<DueStep>
         requires layout { IsLayout layout.now }
         requires within { IsWithin layout.now self }
-        ensures due { (header : Header) → header.layout ≡ layout.now →
-            IfSome result (λ due. IsDue (cursor_at header self) due) }
-        ensures ended { (header : Header) → header.layout ≡ layout.now →
-            IsNone result → HasEnded (cursor_at header self) (answer_of header self) }
+        requires ready { IsReady self }
+        ensures due { (header : Header) (base : State) (p : ℕ) (h : History) → header.layout ≡ layout.now →
+            IfSome result (λ due. IsDue (cursor_at header base p R.pressure R.normal h self) due) }
+        ensures ended { (header : Header) (base : State) (p : ℕ) (h : History) → header.layout ≡ layout.now →
+            IsNone result →
+            HasEnded (cursor_at header base p R.pressure R.normal h self) (answer_of header self) }
     {
         match self {
             Cursor::Change(change, at) => at.due(&change, layout),
@@ -82,17 +127,20 @@ impl Cursor {
             Cursor::Snapshot(counter, at) => at.due(counter, layout),
             Cursor::Test(zone, _, _, at) => at.due(layout, zone),
             Cursor::Fold(fold, at) => at.due(fold, layout),
+            Cursor::Rates(call, at) => at.due::<R>(call, layout),
         }
     }
 
     /// The cursor after a step: none where the step isn't the one that is due.
-    pub fn next(self, layout: &Layout, step: Step) -> Option<Cursor>
+    pub fn next<R: ThresholdRules>(self, layout: &Layout, step: Step) -> Option<Cursor>
         requires layout { IsLayout layout.now }
         requires within { IsWithin layout.now self }
-        ensures goes { (header : Header) → header.layout ≡ layout.now → IfSome result
-            (λ later. GoesOn (cursor_at header self) step (cursor_at header later)) }
-        ensures stops { (header : Header) → header.layout ≡ layout.now → IsNone result →
-            Stops (cursor_at header self) step }
+        requires ready { IsReady self }
+        ensures goes { (header : Header) (base : State) (p : ℕ) (h : History) → header.layout ≡ layout.now →
+            IfSome result (λ later. GoesOn (cursor_at header base p R.pressure R.normal h self) step
+            (cursor_at header base p R.pressure R.normal (after p (step ∷ []) h) later)) }
+        ensures stops { (header : Header) (base : State) (p : ℕ) (h : History) → header.layout ≡ layout.now →
+            IsNone result → Stops (cursor_at header base p R.pressure R.normal h self) step }
         ensures within { IfSome result (λ later. IsWithin layout.now later) }
     {
         match self {
@@ -120,7 +168,22 @@ impl Cursor {
                 Some(later) => Some(Cursor::Fold(fold, later)),
                 None => None,
             },
+            Cursor::Rates(call, at) => match at.next::<R>(call, layout, step) {
+                Some(later) => Some(Cursor::Rates(call, later)),
+                None => None,
+            },
         }
+    }
+}
+
+/// The cursor at the beginning of a call that gives thresholds, which a pass makes that owns no CPU.
+fn begin_rating(call: RatingCall, owner: Option<CpuId>) -> Option<Cursor>
+    ensures known { is_some result ≡ owns_none owner }
+    ensures begins { IfSome result (λ cursor. (online : OnlineCpus) × (cursor ≡ Rates call (States online 0))) }
+{
+    match owner {
+        Some(_) => None,
+        None => Some(Cursor::Rates(call, RatingPosition::States(OnlineCpus::none(), 0))),
     }
 }
 

@@ -3,6 +3,7 @@
 #![tactic(auto)]
 
 mod amounts;
+mod asked;
 mod change_positions;
 mod changes;
 mod cursors;
@@ -10,11 +11,16 @@ mod fold_positions;
 mod folds;
 mod load_positions;
 mod looked;
+mod online_cpus;
+mod rated;
+mod rating_calls;
+mod rating_positions;
 mod readings;
 mod snapshot_positions;
 mod taken;
 mod test_positions;
 
+pub use asked::Asked;
 pub use change_positions::ChangePosition;
 pub use changes::Change;
 pub use cursors::Cursor;
@@ -22,6 +28,10 @@ pub use fold_positions::FoldPosition;
 pub use folds::Fold;
 pub use load_positions::LoadPosition;
 pub use looked::{Looked, OnlineCpu};
+pub use online_cpus::OnlineCpus;
+pub use rated::Rated;
+pub use rating_calls::RatingCall;
+pub use rating_positions::RatingPosition;
 pub use snapshot_positions::SnapshotPosition;
 pub use taken::Taken;
 pub use test_positions::TestPosition;

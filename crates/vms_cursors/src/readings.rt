@@ -155,3 +155,34 @@ pub fn taken_in(cpu: CpuId, group: GroupId, step: Step) -> Option<Diffs>
         _ => None,
     }
 }
+
+/// What a step tells as a load of what a CPU acknowledged last of a zone.
+pub fn number_told_in(cpu: CpuId, zone: PlaceId, step: Step) -> Option<Option<u32>>
+    ensures { result ≡ told.number_told_in cpu.number zone.number step }
+{
+    match step {
+        Step::LoadA(of, loaded, number)
+            if of.number == cpu.number && loaded.number == zone.number => { Some(number) }
+        _ => None,
+    }
+}
+
+/// The mark that a step sets in a zone.
+pub fn set_mark_in(zone: PlaceId, step: Step) -> Option<u64>
+    ensures { result ≡ told.set_mark_in zone.number step }
+{
+    match step {
+        Step::SetM(of, mark) if of.number == zone.number => Some(mark),
+        _ => None,
+    }
+}
+
+/// The threshold that a step sets on a CPU in a place.
+pub fn set_threshold_in(cpu: CpuId, place: PlaceId, step: Step) -> Option<u32>
+    ensures { result ≡ told.set_threshold_in cpu.number place.number step }
+{
+    match step {
+        Step::SetT(of, set, t) if of.number == cpu.number && set.number == place.number => Some(t),
+        _ => None,
+    }
+}

@@ -1,14 +1,20 @@
--- A fold begins with its whole plan.
-use Rattle.std.proofs.Common.{Bool, ap, ◌∙◌, subst, sym}
-use Rattle.vms_calls.specs.Common.{CpuId}
+-- A fold and the calls that give thresholds begin with their whole plans.
+use Rattle.std.proofs.Common.{◌≡◌, Bool, ap, refl, ◌∙◌, subst, sym}
+use Rattle.std.specs.Prelude.{None, Option, Some}
+use Rattle.vms_calls.specs.Common.{ByNormal, ByPressure, CpuId, PlaceId, facts_of}
 use Rattle.vms_calls.specs.PageCalls.{owns_cpu}
 use Rattle.vms_calls.specs.declared.page_calls.PageAnswer.TheVariants as answer
 use Rattle.vms_calls.specs.declared.page_calls.PageCall.{PageCall}
-use Rattle.vms_plans.specs.Common.{answering, fold_plan, plan_of}
+use Rattle.vms_calls.specs.declared.page_calls.PageCall.TheVariants as page
+use Rattle.vms_plans.specs.Common.{answering, fold_plan, node_plan, plan_of}
+use Rattle.vms_cursors.specs.Calls.{IsCallWithin, has_cursor, owns_none}
 use Rattle.vms_cursors.specs.Cursors.{IsSame}
 use Rattle.vms_cursors.specs.Folds.{fold_at}
 use Rattle.vms_cursors.specs.declared.fold_positions.FoldPosition.TheVariants.{Places}
 use Rattle.vms_cursors.specs.declared.folds.Fold.{Fold}
+use Rattle.vms_cursors.specs.declared.rating_calls.RatingCall.TheVariants.{Normal, Pressure}
+use Rattle.vms_cursors.proofs.CursorBegins.{rating-begins, rating-within}
+use Rattle.vms_cursors.proofs.RatingBegins.{normal-begins, pressure-begins}
 use Rattle.vms_cursors.proofs.FoldPlans.{fold-begins}
 use Rattle.vms_cursors.proofs.Goes.{same-runs}
 use Rattle.vms_cursors.proofs.cursors.Cursor.begin.Goals as goal
@@ -28,3 +34,45 @@ returns-in-Fold-clause-begins g c = λ header base p h.
     (ap (answering (λ made. answer.Done))
     (fold-begins shape taken c.nothing.ensures.groups c.nothing.ensures.totals own cpu
     ∙ ap (λ (b : Bool). fold_at shape (whole b) (Places taken 0)) (sym c.owns_cpu.ensures))))
+
+pub returns-in-SetPressure-clause-begins : goal.returns-in-SetPressure-clause-begins
+returns-in-SetPressure-clause-begins g c = λ header base p h.
+    let P = g.R.ThresholdRules.pressure in
+    let N = g.R.ThresholdRules.normal in
+    let facts = facts_of header base in
+    rating-begins (Pressure c.in-SetPressure.node) header base p P N h c.args.call (page.SetPressure c.in-SetPressure.node) c.in-SetPressure.is
+    (node_plan facts p (ByPressure P N) c.in-SetPressure.node h) refl (λ online. pressure-begins facts p P N h online c.in-SetPressure.node)
+    c.args.owner c.begin_rating.result c.begin_rating.ensures.known c.begin_rating.ensures.begins
+
+pub returns-in-SetPressure-clause-known : goal.returns-in-SetPressure-clause-known
+returns-in-SetPressure-clause-known g c = c.begin_rating.ensures.known ∙ known-SetPressure c.args.owner c.in-SetPressure.node
+    ∙ ap (has_cursor c.args.owner) (sym c.in-SetPressure.is)
+  where
+    known-SetPressure : (owner : Option CpuId) (n : PlaceId) → owns_none owner ≡ has_cursor owner (page.SetPressure n)
+    known-SetPressure None n = refl
+    known-SetPressure (Some own) n = refl
+
+pub returns-in-SetPressure-clause-within : goal.returns-in-SetPressure-clause-within
+returns-in-SetPressure-clause-within g c = λ shape within. rating-within (Pressure c.in-SetPressure.node) shape
+    (subst (IsCallWithin shape) c.in-SetPressure.is within) c.begin_rating.result c.begin_rating.ensures.begins
+
+pub returns-in-SetNormal-clause-begins : goal.returns-in-SetNormal-clause-begins
+returns-in-SetNormal-clause-begins g c = λ header base p h.
+    let P = g.R.ThresholdRules.pressure in
+    let N = g.R.ThresholdRules.normal in
+    let facts = facts_of header base in
+    rating-begins (Normal c.in-SetNormal.node) header base p P N h c.args.call (page.SetNormal c.in-SetNormal.node) c.in-SetNormal.is
+    (node_plan facts p (ByNormal N) c.in-SetNormal.node h) refl (λ online. normal-begins facts p P N h online c.in-SetNormal.node)
+    c.args.owner c.begin_rating-in-SetNormal.result c.begin_rating-in-SetNormal.ensures.known c.begin_rating-in-SetNormal.ensures.begins
+
+pub returns-in-SetNormal-clause-known : goal.returns-in-SetNormal-clause-known
+returns-in-SetNormal-clause-known g c = c.begin_rating-in-SetNormal.ensures.known ∙ known-SetNormal c.args.owner c.in-SetNormal.node
+    ∙ ap (has_cursor c.args.owner) (sym c.in-SetNormal.is)
+  where
+    known-SetNormal : (owner : Option CpuId) (n : PlaceId) → owns_none owner ≡ has_cursor owner (page.SetNormal n)
+    known-SetNormal None n = refl
+    known-SetNormal (Some own) n = refl
+
+pub returns-in-SetNormal-clause-within : goal.returns-in-SetNormal-clause-within
+returns-in-SetNormal-clause-within g c = λ shape within. rating-within (Normal c.in-SetNormal.node) shape
+    (subst (IsCallWithin shape) c.in-SetNormal.is within) c.begin_rating-in-SetNormal.result c.begin_rating-in-SetNormal.ensures.begins

@@ -1,0 +1,48 @@
+-- How the cursor of a call that gives thresholds begins.
+use Rattle.std.proofs.Common.{◌≡◌, ℕ, ◌≤◌, Bool, true, false, refl, sym, ap, subst, ◌∙◌, arith}
+use Rattle.std.specs.Prelude.{IfSome, None, Option, Some, is_some}
+use Rattle.vms_calls.specs.Common.{CpuId, Header, History, Shape, State, ZoneSize, facts_of}
+use Rattle.vms_calls.specs.declared.page_calls.PageAnswer.TheVariants as answer
+use Rattle.vms_calls.specs.declared.page_calls.PageCall.{PageCall}
+use Rattle.vms_plans.specs.Common.{Plan, answering, plan_of}
+use Rattle.vms_cursors.specs.Calls.{IsWithin, cursor_at, owns_none}
+use Rattle.vms_cursors.specs.Cursors.{IsSame}
+use Rattle.vms_cursors.specs.RatingCalls.{IsRatingWithin}
+use Rattle.vms_cursors.specs.Ratings.{rating_at}
+use Rattle.vms_cursors.specs.declared.cursors.Cursor.{Cursor}
+use Rattle.vms_cursors.specs.declared.cursors.Cursor.TheVariants.{Rates}
+use Rattle.vms_cursors.specs.declared.online_cpus.OnlineCpus.{OnlineCpus}
+use Rattle.vms_cursors.specs.declared.rating_calls.RatingCall.{RatingCall}
+use Rattle.vms_cursors.specs.declared.rating_positions.RatingPosition.TheVariants.{States}
+use Rattle.vms_cursors.proofs.Goes.{same-runs}
+
+module _ (rating : RatingCall) where
+  -- the cursor at the beginning
+  abbrev pub Begins : Cursor → Type 0
+  Begins cursor = (online : OnlineCpus) × (cursor ≡ Rates rating (States online 0))
+
+  module _ (header : Header) (base : State) (p : ℕ) (pressure normal : ZoneSize → ℕ → ℕ → Type 0) (h : History)
+      (call whole : PageCall) (is : call ≡ whole) (plan : Plan (Unit {0}))
+      (of : plan_of header base pressure normal whole None p h ≡ answering (λ made. answer.Done) plan)
+      (starts : (online : OnlineCpus)
+      → plan ≡ rating_at (facts_of header base) p pressure normal rating h (States online 0)) where
+    pub rating-begins : (owner : Option CpuId) (result : Option Cursor) → is_some result ≡ owns_none owner
+        → IfSome result Begins → IfSome result (λ cursor.
+        IsSame (plan_of header base pressure normal call owner p h) (cursor_at header base p pressure normal h cursor))
+    rating-begins owner None known found = found
+    rating-begins (Some c) (Some cursor) known found = absurd cc
+    rating-begins None (Some cursor) known found =
+        subst (λ k. IsSame (plan_of header base pressure normal k None p h)
+        (cursor_at header base p pressure normal h cursor)) (sym is)
+        (subst (λ x. IsSame (plan_of header base pressure normal whole None p h)
+        (cursor_at header base p pressure normal h x)) (sym found.1)
+        (same-runs (plan_of header base pressure normal whole None p h)
+        (answering (λ made. answer.Done)
+        (rating_at (facts_of header base) p pressure normal rating h (States found.0 0)))
+        (of ∙ ap (answering (λ made. answer.Done)) (starts found.0))))
+
+  pub rating-within : (shape : Shape) → IsRatingWithin shape rating → (result : Option Cursor) → IfSome result Begins
+      → IfSome result (λ cursor. IsWithin shape cursor)
+  rating-within shape within None found = found
+  rating-within shape within (Some cursor) found =
+      let few : 0 ≤ shape.cpus = omega arith in subst (IsWithin shape) (sym found.1) (within, few)

@@ -1,0 +1,27 @@
+-- A cursor goes on from the answer as its position does.
+use Rattle.std.proofs.Common.{sym, subst}
+use Rattle.vms_calls.specs.Common.{facts_of}
+use Rattle.vms_calls.specs.declared.page_calls.PageAnswer.TheVariants as answer
+use Rattle.vms_cursors.specs.Calls.{AnswersCursor, IsWithin, cursor_at}
+use Rattle.vms_cursors.specs.Cursors.{IsSame}
+use Rattle.vms_cursors.specs.Ratings.{rating_at}
+use Rattle.vms_cursors.specs.declared.cursors.Cursor.TheVariants.{Rates}
+use Rattle.vms_cursors.proofs.Goes.{answering-same}
+use Rattle.vms_cursors.proofs.cursors.Cursor.answer.Goals as goal
+
+pub returns-in-Rates-clause-same : goal.returns-in-Rates-clause-same
+returns-in-Rates-clause-same g c = λ header base p h answers.
+    let P = g.R.ThresholdRules.pressure in
+    let N = g.R.ThresholdRules.normal in
+    let call = c.in-Rates.call in
+    let facts = facts_of header base in
+    subst (λ s. IsSame (cursor_at header base p P N h s) (cursor_at header base p P N h (Rates call c.answer.result)))
+    (sym c.in-Rates.is)
+    (answering-same (λ made. answer.Done) (rating_at facts p P N call h c.in-Rates.at)
+    (rating_at facts p P N call h c.answer.result)
+    (c.answer.ensures.same facts p call h
+    (subst (λ s. AnswersCursor header base p P N h s c.args.chosen c.args.mark) c.in-Rates.is answers)))
+
+pub returns-in-Rates-clause-within : goal.returns-in-Rates-clause-within
+returns-in-Rates-clause-within g c = λ shape within.
+    let both = subst (IsWithin shape) c.in-Rates.is within in (both.0, c.answer.ensures.within shape both.1)
