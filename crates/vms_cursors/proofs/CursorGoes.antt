@@ -1,10 +1,13 @@
 -- What holds of the plan at a cursor, from the position at which its call stands.
 use Rattle.std.proofs.Common.{◌≡◌, ℕ, [], ◌∷◌, sym, subst}
 use Rattle.std.specs.Prelude.{Option, Some, None, IfSome}
-use Rattle.vms_calls.specs.Common.{Header, History, Shape, State, Step, ZoneSize, after, facts_of}
+use Rattle.vms_calls.specs.Common.{CpuId, Header, History, Shape, State, Step, ZoneSize, after, facts_of}
 use Rattle.vms_plans.specs.declared.due_steps.DueStep.{DueStep}
 use Rattle.vms_plans.specs.Common.{Plan, and_then, ends}
+use Rattle.vms_cursors.specs.BurialClauses.{BurialDue, BurialEnded, BurialGoes, BurialStops}
+use Rattle.vms_cursors.specs.Burials.{burial_at}
 use Rattle.vms_cursors.specs.Calls.{answer_of, cursor_at}
+use Rattle.vms_cursors.specs.declared.burial_positions.BurialPosition.{BurialPosition}
 use Rattle.vms_cursors.specs.Cursors.{GoesOn, HasEnded, IsDue, Stops}
 use Rattle.vms_cursors.specs.RatingClauses.{RatingDue, RatingEnded, RatingGoes, RatingStops}
 use Rattle.vms_cursors.specs.Ratings.{rating_at}
@@ -57,3 +60,26 @@ module _ (header : Header) (base : State) (p : ℕ) (pressure normal : ZoneSize 
   pub rates-stops : (step : Step) → RatingStops shape pressure normal call at step → Stops here step
   rates-stops step stops =
       subst (λ s. RatingStops s pressure normal call at step) (sym same) stops header.sizes base p h
+
+-- and a position of a burial
+module _ (header : Header) (base : State) (p : ℕ) (pressure normal : ZoneSize → ℕ → ℕ → Type 0) (h : History)
+    (shape : Shape) (same : header.layout ≡ shape) (c : CpuId) (at : BurialPosition) where
+  abbrev left : Plan (Unit {0})
+  left = burial_at (facts_of header base) p pressure normal c h at
+
+  pub buries-due : (due : Option DueStep) → IfSome due (λ d. BurialDue shape pressure normal c at d)
+      → IfSome due (λ d. IsDue left d)
+  buries-due None is = is
+  buries-due (Some d) is = subst (λ s. BurialDue s pressure normal c at d) (sym same) is header.sizes base p h
+
+  pub buries-ended : BurialEnded shape pressure normal c at → HasEnded left (tt {0})
+  buries-ended ended = subst (λ s. BurialEnded s pressure normal c at) (sym same) ended header.sizes base p h
+
+  pub buries-goes : (step : Step) (later : BurialPosition) → BurialGoes shape pressure normal c at step later
+      → GoesOn left step (burial_at (facts_of header base) p pressure normal c (after p (step ∷ []) h) later)
+  buries-goes step later goes =
+      subst (λ s. BurialGoes s pressure normal c at step later) (sym same) goes header.sizes base p h
+
+  pub buries-stops : (step : Step) → BurialStops shape pressure normal c at step → Stops left step
+  buries-stops step stops =
+      subst (λ s. BurialStops s pressure normal c at step) (sym same) stops header.sizes base p h

@@ -6,24 +6,24 @@ use Rattle.std.proofs.lemmas.List.{drop_all}
 use Rattle.std.proofs.lemmas.Nat.{div-mul-add}
 use Rattle.std.proofs.Math.Nat.{mul-suc, mul_assoc}
 use Rattle.std.specs.Prelude.{Option, Some, None, slice_index_or}
-use Rattle.vms_calls.specs.Common.{AddG, AddS, CounterId, Diffs, GroupId, IsLayout, ItemId, LoadT, PlaceId, SetA}
+use Rattle.vms_calls.specs.Common.{AddG, AddS, CounterId, Diffs, GroupId, IsLayout, ItemId, LoadT, SetA}
 use Rattle.vms_calls.specs.Common.{Shape, Step}
 use Rattle.vms_calls.specs.Common.{Take, acknowledges, counter_at, entries_of, first_of_group, group_of, in_turn}
 use Rattle.vms_calls.specs.Common.{item_count, place_count, taken_of_item, to_place, to_system}
 use Rattle.vms_plans.specs.declared.due_steps.DueStep.TheVariants.{LoadsThreshold, Makes, Takes}
 use Rattle.vms_plans.specs.Common.{Plan, acknowledged_plan, and_then, ends, groups_plan, makes, makes_all, place_groups}
 use Rattle.vms_plans.specs.Common.{place_plan, places_plan, taken_plan, waits}
-use Rattle.vms_cursors.specs.Cursors.{GoesOn, HasEnded, IsDue, Stops}
+use Rattle.vms_cursors.specs.Cursors.{GoesOn, IsDue, Stops}
 use Rattle.vms_cursors.specs.Folds.{fold_at, groups_from, items_from, items_left, place_end, places_from}
 use Rattle.vms_cursors.specs.StepReadings.{number_in, taken_in}
 use Rattle.vms_cursors.specs.Totals.{total_at}
 use Rattle.vms_cursors.specs.declared.folds.Fold.{Fold}
 use Rattle.vms_cursors.specs.declared.taken.Taken.{Taken}
-use Rattle.vms_cursors.specs.declared.fold_positions.FoldPosition.TheVariants.{Places, Groups, Entries, Items}
+use Rattle.vms_cursors.specs.declared.fold_positions.FoldPosition.TheVariants.{Places, Groups, Entries}
 use Rattle.vms_cursors.proofs.FoldPlans.{groups-same, place_end-same}
-use Rattle.vms_cursors.proofs.Goes.{ends-stops, waits-due, waits-goes, waits-stops}
+use Rattle.vms_cursors.proofs.Goes.{waits-due, waits-goes, waits-stops}
 use Rattle.vms_cursors.proofs.LayoutGroups.{eight-each}
-use Rattle.vms_cursors.proofs.PlanEquations.{and_then-assoc, and_then-makes_all, due-along, ended-along, goes-along}
+use Rattle.vms_cursors.proofs.PlanEquations.{and_then-assoc, and_then-makes_all, due-along, goes-along}
 use Rattle.vms_cursors.proofs.PlanEquations.{stops-along}
 use Rattle.vms_cursors.proofs.TestGoes.{some_positions}
 use Rattle.vms_cursors.proofs.StepReadings.{number-other, number-read, taken-other, taken-read}

@@ -7,7 +7,7 @@ use Rattle.std.specs.Prelude.{Option, Some, None}
 use Rattle.vms_calls.specs.Common.{CpuId, Diffs, LoadT, SetA, Shape, Step, Take, acknowledges, counter_at, entries_of}
 use Rattle.vms_calls.specs.Common.{first_of_group, group_of, in_turn, item_count, place_count, system_steps, taken_of_item, to_place}
 use Rattle.vms_calls.specs.Common.{to_system}
-use Rattle.vms_plans.specs.declared.due_steps.DueStep.TheVariants.{LoadsThreshold, Makes, Takes}
+use Rattle.vms_plans.specs.declared.due_steps.DueStep.TheVariants.{LoadsThreshold, Takes}
 use Rattle.vms_plans.specs.Common.{Plan, acknowledged_plan, and_then, ends, fold_plan, groups_plan, makes, makes_all}
 use Rattle.vms_plans.specs.Common.{place_groups, place_plan, places_plan, taken_plan, waits}
 use Rattle.vms_cursors.specs.Folds.{fold_at, items_from, items_left, place_end, places_from}

@@ -16,3 +16,5 @@ pub mod RatingGoes
 pub mod RatingAlong
 pub mod RatingBegins
 pub mod CursorBegins
+pub mod Sequences
+pub mod BurialGoes

@@ -1,5 +1,5 @@
 -- Plans that are put together in another way and are the same, and what holds of one then holds of the other.
-use Rattle.std.proofs.Common.{◌≡◌, ℕ, [], ◌∷◌, List, refl, ap, sym, subst}
+use Rattle.std.proofs.Common.{◌≡◌, [], ◌∷◌, List, refl, ap, sym, subst}
 use Rattle.std.proofs.Math.Path.{fun_ext}
 use Rattle.std.specs.Prelude.{IfSome, None, Option, Some}
 use Rattle.vms_calls.specs.Common.{Step}

@@ -1,5 +1,5 @@
 -- What is said of a position is said of another of the same plan.
-use Rattle.std.proofs.Common.{◌≡◌, ℕ, List, [], ◌∷◌, subst, sym}
+use Rattle.std.proofs.Common.{◌≡◌, ℕ, List, [], ◌∷◌, subst}
 use Rattle.std.specs.Prelude.{IfSome, None, Option, Some}
 use Rattle.vms_calls.specs.Common.{History, Shape, State, Step, ZoneSize, after}
 use Rattle.vms_plans.specs.declared.due_steps.DueStep.{DueStep}

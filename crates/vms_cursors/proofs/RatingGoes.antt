@@ -2,7 +2,7 @@
 use Rattle.std.proofs.Common.{◌≡◌, ℕ, suc, ◌+◌, ◌-◌, ◌<◌, ◌≤◌, nat_eq, Bool, true, false, List, [], ◌∷◌, ◌++◌, length}
 use Rattle.std.proofs.Common.{if◌then◌else◌, refl, sym, ap, subst, ◌∙◌, append_assoc, add-one}
 use Rattle.std.proofs.Math.ListN.{set}
-use Rattle.std.specs.Prelude.{Option, None, Some, slice_index_or, take, drop}
+use Rattle.std.specs.Prelude.{Option, None, Some, slice_index_or, take}
 use Rattle.vms_calls.specs.Common.{CpuId, CpuState, Facts, History, LoadA, LoadM, LoadO, MarkRead, PlaceId, SetM, SetT}
 use Rattle.vms_calls.specs.Common.{Step, ZoneSize, after, is_online, largest_on, mark_for, online_from, rating_steps}
 use Rattle.vms_calls.specs.Common.{size_at, threshold_steps}
@@ -10,10 +10,10 @@ use Rattle.vms_calls.specs.LookReadings.{mark_told}
 use Rattle.vms_plans.specs.declared.due_steps.DueStep.TheVariants.{LoadsAcknowledged, LoadsMark, LoadsState, Makes}
 use Rattle.vms_plans.specs.Common.{Plan, Runs, and_then, either, ends, makes_all, mark_plan, rates_plan, recorded, state_told}
 use Rattle.vms_plans.specs.Common.{states_plan, waits}
-use Rattle.vms_cursors.specs.Cursors.{GoesOn, HasEnded, IsDue, IsSame, Stops}
+use Rattle.vms_cursors.specs.Cursors.{GoesOn, IsDue, IsSame, Stops}
 use Rattle.vms_cursors.specs.OnlineCpus.{flagged, is_flagged}
 use Rattle.vms_cursors.specs.RatingCalls.{choice_in, spares}
-use Rattle.vms_cursors.specs.Ratings.{asks_plan, numbers_from, online_in, online_plan, rated_plan, rating_at, sets_plan}
+use Rattle.vms_cursors.specs.Ratings.{online_in, online_plan, rated_plan, rating_at, sets_plan}
 use Rattle.vms_cursors.specs.Ratings.{states_from, thresholds_left, zone_end}
 use Rattle.vms_cursors.specs.StepReadings.{mark_in, number_told_in, state_in}
 use Rattle.vms_cursors.specs.declared.online_cpus.OnlineCpus.{OnlineCpus}

@@ -1,12 +1,12 @@
 -- How totals grow by the entries of a list.
-use Rattle.std.proofs.Common.{◌≡◌, ℕ, ◌+◌, ◌*◌, ◌<◌, ◌≤◌, nat_eq, Bool, true, false, ℤ, pos, ◌+ℤ◌, unsigned_abs, List}
+use Rattle.std.proofs.Common.{◌≡◌, ℕ, ◌+◌, ◌<◌, ◌≤◌, nat_eq, Bool, true, false, ℤ, pos, ◌+ℤ◌, unsigned_abs, List}
 use Rattle.std.proofs.Common.{length, if◌then◌else◌, refl, ◌∙◌, arith, add-one}
 use Rattle.std.proofs.Math.ListN.{set}
 use Rattle.std.proofs.lemmas.Int.{ints}
 use Rattle.std.specs.Prelude.{slice_index_or}
 use Rattle.vms_calls.specs.Common.{AreBytes, Shape, first_of_group, item_of, sum_below}
 use Rattle.vms_history.proofs.Common.{get_or-changed}
-use Rattle.vms_cursors.specs.Totals.{AreWithin, total_at}
+use Rattle.vms_cursors.specs.Totals.{total_at}
 
 -- an entry for another item adds nothing
 abbrev pub entry_for : Shape → ℕ → List ℤ → ℕ → ℕ → ℤ

@@ -8,6 +8,8 @@ use Rattle.vms_calls.specs.declared.page_calls.PageAnswer.TheVariants as answer
 use Rattle.vms_calls.specs.declared.page_calls.PageCall.{PageCall}
 use Rattle.vms_calls.specs.declared.page_calls.PageCall.TheVariants as call
 use Rattle.vms_plans.specs.Common.{Plan, answering}
+use Rattle.vms_cursors.specs.BurialClauses.{BurialAnswers, IsBurialAsked}
+use Rattle.vms_cursors.specs.Burials.{IsBurialAnswered, IsBurialWithin, burial_at}
 use Rattle.vms_cursors.specs.Changes.{change_at}
 use Rattle.vms_cursors.specs.Folds.{IsFoldWithin, fold_at}
 use Rattle.vms_cursors.specs.Loads.{load_answer, system_at, value_at}
@@ -19,6 +21,7 @@ use Rattle.vms_cursors.specs.Tests.{test_answer, test_at}
 use Rattle.vms_cursors.specs.declared.asked.Asked.{Asked}
 use Rattle.vms_cursors.specs.declared.cursors.Cursor.{Cursor}
 use Rattle.vms_cursors.specs.declared.cursors.Cursor.TheVariants.{Change, Value, System, Snapshot, Test, Fold, Rates}
+use Rattle.vms_cursors.specs.declared.cursors.Cursor.TheVariants.{Bury}
 
 abbrev pub cursor_at : Header → State → ℕ → (pressure normal : ZoneSize → ℕ → ℕ → Type 0) → History → Cursor
     → Plan PageAnswer
@@ -36,6 +39,8 @@ cursor_at header base p pressure normal h (Fold fold at) =
     answering (λ made. answer.Done) (fold_at header.layout fold at)
 cursor_at header base p pressure normal h (Rates call at) =
     answering (λ made. answer.Done) (rating_at (facts_of header base) p pressure normal call h at)
+cursor_at header base p pressure normal h (Bury c at) =
+    answering (λ made. answer.Done) (burial_at (facts_of header base) p pressure normal c h at)
 
 -- the answer where the call has ended
 abbrev pub answer_of : Header → Cursor → PageAnswer
@@ -46,6 +51,7 @@ answer_of header (Snapshot k at) = answer.Snapshot (snapshot_answer at)
 answer_of header (Test g mark most at) = answer.Tested (test_answer header g mark most at)
 answer_of header (Fold fold at) = answer.Done
 answer_of header (Rates call at) = answer.Done
+answer_of header (Bury c at) = answer.Done
 
 -- the call is on a counter or a zone of the layout
 abbrev pub IsWithin : Shape → Cursor → Type 0
@@ -54,6 +60,7 @@ IsWithin shape (Snapshot k at) = IsCounter shape k.number
 IsWithin shape (Test g mark most at) = IsZone shape g.number
 IsWithin shape (Fold fold at) = IsFoldWithin shape at
 IsWithin shape (Rates call at) = IsRatingWithin shape call × IsPositionWithin shape at
+IsWithin shape (Bury c at) = IsBurialWithin shape at
 IsWithin shape _ = Unit {0}
 
 -- a change is by no more than the volume of a CPU
@@ -75,8 +82,8 @@ abbrev pub owns_none : Option CpuId → Bool
 owns_none None = true
 owns_none (Some c) = false
 
--- there is a cursor for a change by a pass that owns a CPU, for the calls that set thresholds by one that owns none, and
--- for looks, tests and folds
+-- there is a cursor for a change by a pass that owns a CPU, for the calls that set thresholds and a burial by one that owns
+-- none, and for looks, tests and folds
 abbrev pub has_cursor : Option CpuId → PageCall → Bool
 has_cursor None (call.Change k delta how) = false
 has_cursor owner (call.Change k delta how) = true
@@ -87,16 +94,19 @@ has_cursor owner (call.Test g mark most) = true
 has_cursor owner (call.Fold c) = true
 has_cursor owner (call.SetPressure n) = owns_none owner
 has_cursor owner (call.SetNormal n) = owns_none owner
+has_cursor owner (call.Bury c) = owns_none owner
 has_cursor owner _ = false
 
 -- no rule is asked
 abbrev pub IsReady : Cursor → Type 0
 IsReady (Rates call at) = IsAnswered at
+IsReady (Bury c at) = IsBurialAnswered at
 IsReady _ = Unit {0}
 
 -- the rules are asked for this
 abbrev pub IsCursorAsked : Shape → Cursor → Asked → Type 0
 IsCursorAsked shape (Rates call at) asked = IsAsked shape at asked
+IsCursorAsked shape (Bury c at) asked = IsBurialAsked shape at asked
 IsCursorAsked shape _ asked = ⊥
 
 -- the rules choose these thresholds and no others, and the mark covers the zone then
@@ -104,4 +114,6 @@ abbrev pub AnswersCursor : Header → State → ℕ → (pressure normal : ZoneS
     → Chosen → ℕ → Type 0
 AnswersCursor header base p pressure normal h (Rates call at) chosen mark =
     Answers (facts_of header base) p pressure normal call h at chosen mark
+AnswersCursor header base p pressure normal h (Bury c at) chosen mark =
+    BurialAnswers (facts_of header base) p pressure normal h at chosen mark
 AnswersCursor header base p pressure normal h _ chosen mark = Unit {0}

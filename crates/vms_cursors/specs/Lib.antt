@@ -11,3 +11,5 @@ pub mod OnlineCpus
 pub mod RatingCalls
 pub mod Ratings
 pub mod RatingClauses
+pub mod Burials
+pub mod BurialClauses

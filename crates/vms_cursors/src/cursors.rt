@@ -1,17 +1,21 @@
-ghost use Rattle.std.specs.Prelude.{◌≡◌, ℕ, [], ◌∷◌, IfSome, IsNone, is_some};
+ghost use Rattle.std.specs.Prelude.{◌≡◌, ℕ, [], ◌∷◌, IfSome, IsNone, is_some, pos};
 ghost use Rattle.vms_calls.specs.Common.{Header, History, IsLayout, Shape, State, after};
 ghost use Rattle.vms_calls.specs.PageCalls.{owns_cpu};
 ghost use Rattle.vms_plans.specs.Common.{plan_of};
 ghost use Rattle.vms_cursors.specs.Cursors.{GoesOn, IsDue, IsSame, HasEnded, Stops};
 ghost use Rattle.vms_cursors.specs.Calls.{AnswersCursor, IsAffordable, IsCallWithin, IsCursorAsked, IsReady, IsWithin};
 ghost use Rattle.vms_cursors.specs.Calls.{answer_of, cursor_at, has_cursor, owns_none};
-ghost use Rattle.vms_cursors.specs.declared.cursors.Cursor.TheVariants.{Rates};
+ghost use Rattle.vms_cursors.specs.declared.cursors.Cursor.TheVariants.{Bury, Rates};
+ghost use Rattle.vms_cursors.specs.Totals.{total_at};
+ghost use Rattle.vms_cursors.specs.declared.burial_positions.BurialPosition.TheVariants.{Folds};
+ghost use Rattle.vms_cursors.specs.declared.fold_positions.FoldPosition.TheVariants.{Places};
+ghost use Rattle.vms_cursors.specs.declared.taken.Taken.{Taken};
 ghost use Rattle.vms_cursors.specs.declared.online_cpus.OnlineCpus.{OnlineCpus};
 ghost use Rattle.vms_cursors.specs.declared.rating_positions.RatingPosition.TheVariants.{States};
 
 use crate::{
-    Asked, Change, ChangePosition, Fold, FoldPosition, LoadPosition, OnlineCpus, RatingCall,
-    RatingPosition, SnapshotPosition, Taken, TestPosition,
+    Asked, BurialPosition, Change, ChangePosition, Fold, FoldPosition, LoadPosition, OnlineCpus,
+    RatingCall, RatingPosition, SnapshotPosition, Taken, TestPosition,
 };
 use vms_base::{CounterId, CpuId, ItemId, Layout, PlaceId, WaterMark};
 use vms_calls::{Chosen, PageCall, ThresholdRules};
@@ -30,6 +34,7 @@ pub enum Cursor {
     Fold(Fold, FoldPosition),
     /// A call that gives thresholds to the zones of a node.
     Rates(RatingCall, RatingPosition),
+    Bury(CpuId, BurialPosition),
 }
 
 impl Cursor {
@@ -72,7 +77,8 @@ impl Cursor {
             )),
             PageCall::SetPressure(node) => begin_rating(RatingCall::Pressure(node), owner),
             PageCall::SetNormal(node) => begin_rating(RatingCall::Normal(node), owner),
-            _ => None,
+            PageCall::Bury(cpu) => begin_burial(cpu, owner),
+            PageCall::Turn(_, _, _) => None,
         }
     }
 
@@ -84,6 +90,7 @@ impl Cursor {
     {
         match self {
             Cursor::Rates(_, at) => at.asks(layout),
+            Cursor::Bury(_, at) => at.asks(layout),
             _ => None,
         }
     }
@@ -100,6 +107,7 @@ impl Cursor {
     {
         match self {
             Cursor::Rates(call, at) => Cursor::Rates(call, at.answer::<R>(chosen, mark)),
+            Cursor::Bury(cpu, at) => Cursor::Bury(cpu, at.answer::<R>(chosen, mark)),
             Cursor::Change(_, _) => self,
             Cursor::Value(_, _) => self,
             Cursor::System(_, _) => self,
@@ -128,6 +136,7 @@ impl Cursor {
             Cursor::Test(zone, _, _, at) => at.due(layout, zone),
             Cursor::Fold(fold, at) => at.due(fold, layout),
             Cursor::Rates(call, at) => at.due::<R>(call, layout),
+            Cursor::Bury(cpu, at) => at.due::<R>(cpu, layout),
         }
     }
 
@@ -172,6 +181,10 @@ impl Cursor {
                 Some(later) => Some(Cursor::Rates(call, later)),
                 None => None,
             },
+            Cursor::Bury(cpu, at) => match at.next::<R>(cpu, layout, step) {
+                Some(later) => Some(Cursor::Bury(cpu, later)),
+                None => None,
+            },
         }
     }
 }
@@ -184,6 +197,21 @@ fn begin_rating(call: RatingCall, owner: Option<CpuId>) -> Option<Cursor>
     match owner {
         Some(_) => None,
         None => Some(Cursor::Rates(call, RatingPosition::States(OnlineCpus::none(), 0))),
+    }
+}
+
+/// The cursor at the beginning of a burial, which a pass makes that owns no CPU.
+fn begin_burial(cpu: CpuId, owner: Option<CpuId>) -> Option<Cursor>
+    ensures known { is_some result ≡ owns_none owner }
+    ensures begins { IfSome result (λ cursor. (taken : Taken) × (taken.groups ≡ 0)
+        × ((i : ℕ) → total_at taken.totals i ≡ pos 0) × (cursor ≡ Bury cpu (Folds (Places taken 0)))) }
+{
+    match owner {
+        Some(_) => None,
+        None => Some(Cursor::Bury(
+            cpu,
+            BurialPosition::Folds(FoldPosition::Places(Taken::nothing(), 0)),
+        )),
     }
 }
 

@@ -4,6 +4,7 @@
 
 mod amounts;
 mod asked;
+mod burial_positions;
 mod change_positions;
 mod changes;
 mod cursors;
@@ -21,6 +22,7 @@ mod taken;
 mod test_positions;
 
 pub use asked::Asked;
+pub use burial_positions::BurialPosition;
 pub use change_positions::ChangePosition;
 pub use changes::Change;
 pub use cursors::Cursor;

@@ -1,5 +1,5 @@
 ghost use Rattle.std.specs.Prelude.{◌≡◌, ◌↔◌, IfSome, IsNone, IsTrue};
-ghost use Rattle.vms_calls.specs.Common.{Diffs, Put};
+ghost use Rattle.vms_calls.specs.Common.{Diffs, Put, SetO};
 ghost use Rattle.vms_cursors.specs.StepReadings as told;
 
 use crate::Change;
@@ -184,5 +184,15 @@ pub fn set_threshold_in(cpu: CpuId, place: PlaceId, step: Step) -> Option<u32>
     match step {
         Step::SetT(of, set, t) if of.number == cpu.number && set.number == place.number => Some(t),
         _ => None,
+    }
+}
+
+/// Whether a step makes this CPU absent.
+pub fn is_removal(cpu: CpuId, step: Step) -> bool
+    ensures { IsTrue result ↔ (SetO cpu ≡ step) }
+{
+    match step {
+        Step::SetO(of) => of.number == cpu.number,
+        _ => false,
     }
 }

@@ -1,5 +1,5 @@
 -- The load of the mark.
-use Rattle.std.proofs.Common.{rules, ◌<◌, ◌≡◌, ◌∙◌, sym, length, arith}
+use Rattle.std.proofs.Common.{rules, ◌≡◌, ◌∙◌, sym, length, arith}
 use Rattle.vms_cursors.specs.RatingClauses.{facts_with}
 use Rattle.vms_cursors.proofs.RatingGoes.{marks-ask, marks-spare, marks-stop}
 use Rattle.vms_cursors.proofs.rating_positions.after_mark.Goals as goal

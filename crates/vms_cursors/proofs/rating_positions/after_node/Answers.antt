@@ -1,5 +1,5 @@
 -- The set of the threshold of a node, and any other step.
-use Rattle.std.proofs.Common.{◌≡◌, ◌<◌, ◌≤◌, ◌+◌, [], ◌∷◌, take, length, ap, sym, ◌∙◌, arith, refl}
+use Rattle.std.proofs.Common.{◌≡◌, ◌<◌, ◌≤◌, ◌+◌, [], ◌∷◌, take, length, ap, sym, ◌∙◌, arith}
 use Rattle.std.specs.Prelude.{slice_index_or}
 use Rattle.vms_calls.specs.Common.{CpuId, PlaceId, SetT, after, largest_on}
 use Rattle.vms_cursors.specs.RatingClauses.{facts_with}

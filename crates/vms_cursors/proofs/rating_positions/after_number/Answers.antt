@@ -1,6 +1,5 @@
 -- The load of what the next CPU acknowledged last, or of the mark.
-use Rattle.std.proofs.Common.{◌<◌, ◌≡◌, ◌∙◌, true, sym, arith}
-use Rattle.vms_cursors.specs.OnlineCpus.{is_flagged}
+use Rattle.std.proofs.Common.{◌<◌, sym, arith}
 use Rattle.vms_cursors.specs.RatingClauses.{facts_with}
 use Rattle.vms_cursors.proofs.RatingGoes.{numbers-goes, numbers-stops}
 use Rattle.vms_cursors.proofs.rating_positions.after_number.Goals as goal

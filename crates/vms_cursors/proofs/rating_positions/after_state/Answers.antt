@@ -1,5 +1,5 @@
 -- The load of the next CPU's state.
-use Rattle.std.proofs.Common.{rules, ◌≡◌, ◌<◌, ◌∙◌, ap, sym, length, arith}
+use Rattle.std.proofs.Common.{rules, ◌≡◌, ◌∙◌, ap, sym, length, arith}
 use Rattle.std.specs.Prelude.{slice_set}
 use Rattle.vms_cursors.specs.RatingClauses.{facts_with}
 use Rattle.vms_cursors.proofs.RatingGoes.{states-goes, states-stops}

@@ -1,10 +1,9 @@
 -- The set of the threshold of a node is due, or the call has ended.
-use Rattle.std.proofs.Common.{◌≡◌, ◌<◌, ◌≤◌, ◌+◌, [], ◌∷◌, take, length, ap, sym, subst, refl, ◌∙◌, arith}
+use Rattle.std.proofs.Common.{◌≡◌, ◌<◌, ◌≤◌, ◌+◌, [], ◌∷◌, take, length, ap, sym, subst, refl, arith}
 use Rattle.std.specs.Prelude.{slice_index_or}
-use Rattle.vms_calls.specs.Common.{CpuId, PlaceId, SetT, Step, after, largest_on}
-use Rattle.vms_plans.specs.declared.due_steps.DueStep.{DueStep}
+use Rattle.vms_calls.specs.Common.{CpuId, PlaceId, SetT, after, largest_on}
 use Rattle.vms_plans.specs.declared.due_steps.DueStep.TheVariants.{Makes}
-use Rattle.vms_cursors.specs.Cursors.{HasEnded, IsDue}
+use Rattle.vms_cursors.specs.Cursors.{IsDue}
 use Rattle.vms_cursors.specs.RatingClauses.{facts_with}
 use Rattle.vms_cursors.specs.Ratings.{rating_at}
 use Rattle.vms_cursors.specs.declared.rating_positions.RatingPosition.TheVariants.{Nodes}

@@ -1,5 +1,5 @@
 -- A zone that is not visited is passed.
-use Rattle.std.proofs.Common.{◌≡◌, ◌<◌, ◌≤◌, ◌+◌, ◌∙◌, ℕ, false, length, sym, ap, subst, arith, ⊎_elim}
+use Rattle.std.proofs.Common.{◌≡◌, ◌<◌, ◌≤◌, ◌∙◌, false, length, sym, ap, subst, arith, ⊎_elim}
 use Rattle.std.proofs.lemmas.Bool.{cases_lt}
 use Rattle.vms_cursors.specs.RatingCalls.{visits}
 use Rattle.vms_cursors.proofs.RatingPlans.{left_of, visited-skipped}

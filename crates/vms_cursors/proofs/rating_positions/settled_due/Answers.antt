@@ -1,5 +1,5 @@
 -- What is due at each position.
-use Rattle.std.proofs.Common.{◌≡◌, ◌+◌, [], ◌∷◌, refl, subst}
+use Rattle.std.proofs.Common.{◌+◌, [], ◌∷◌, refl, subst}
 use Rattle.std.specs.Prelude.{Some}
 use Rattle.vms_calls.specs.Common.{SetM, SetT, after}
 use Rattle.vms_plans.specs.declared.due_steps.DueStep.TheVariants.{LoadsState, Makes}

@@ -1,5 +1,5 @@
 -- A refresh goes on to the nodes.
-use Rattle.std.proofs.Common.{◌≡◌, ◌≤◌, refl, subst, sym, length, arith}
+use Rattle.std.proofs.Common.{◌≤◌, refl, subst, sym, length, arith}
 use Rattle.vms_cursors.specs.RatingClauses.{RatingSame, facts_with}
 use Rattle.vms_cursors.specs.declared.rating_calls.RatingCall.{RatingCall}
 use Rattle.vms_cursors.specs.declared.rating_calls.RatingCall.TheVariants.{Refresh}

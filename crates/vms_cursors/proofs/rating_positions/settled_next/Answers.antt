@@ -1,5 +1,5 @@
 -- How each position goes on.
-use Rattle.std.proofs.Common.{◌≡◌, subst}
+use Rattle.std.proofs.Common.{subst}
 use Rattle.vms_plans.specs.Common.{ends}
 use Rattle.vms_cursors.specs.RatingClauses.{facts_with}
 use Rattle.vms_cursors.specs.Ratings.{IsPositionWithin, IsSettled, rating_at}

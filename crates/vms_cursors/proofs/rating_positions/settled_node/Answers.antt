@@ -1,5 +1,5 @@
 -- The next CPU that is online, or the next node.
-use Rattle.std.proofs.Common.{◌≡◌, ◌-◌, ◌+◌, ◌<◌, ◌≤◌, [], drop, length, subst, sym, ap, arith, ◌∙◌}
+use Rattle.std.proofs.Common.{◌≡◌, ◌-◌, ◌+◌, ◌<◌, ◌≤◌, drop, length, subst, sym, ap, arith, ◌∙◌}
 use Rattle.vms_cursors.specs.OnlineCpus.{flagged}
 use Rattle.vms_plans.specs.Common.{ends, makes_all}
 use Rattle.vms_cursors.specs.Ratings.{nodes_left}

@@ -1,5 +1,5 @@
 -- The next CPU that is online.
-use Rattle.std.proofs.Common.{◌≡◌, ◌-◌, ◌<◌, subst, arith}
+use Rattle.std.proofs.Common.{◌≡◌, ◌-◌, subst, arith}
 use Rattle.vms_cursors.specs.OnlineCpus.{flagged}
 use Rattle.vms_cursors.specs.declared.rating_positions.RatingPosition.TheVariants.{Numbers}
 use Rattle.vms_cursors.specs.RatingClauses.{facts_with}

@@ -1,5 +1,5 @@
 -- All states are loaded.
-use Rattle.std.proofs.Common.{◌≡◌, ◌≤◌, ap, refl, arith}
+use Rattle.std.proofs.Common.{◌≤◌, ap, refl, arith}
 use Rattle.vms_cursors.specs.declared.rating_positions.RatingPosition.TheVariants.{States, Zones}
 use Rattle.vms_cursors.proofs.RatingPlans.{states-are_zones}
 use Rattle.vms_cursors.proofs.RatingAlong.{rating-both, rating-same, rating-as}

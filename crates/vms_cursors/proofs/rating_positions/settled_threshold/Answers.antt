@@ -1,5 +1,5 @@
 -- The next CPU that is online, or the next zone.
-use Rattle.std.proofs.Common.{rules, ◌≡◌, ◌-◌, ◌+◌, ◌<◌, ◌≤◌, length, subst, arith}
+use Rattle.std.proofs.Common.{rules, ◌≡◌, ◌-◌, ◌+◌, ◌≤◌, length, subst, arith}
 use Rattle.vms_cursors.specs.OnlineCpus.{flagged}
 use Rattle.vms_cursors.specs.declared.rating_positions.RatingPosition.TheVariants.{Thresholds, Zones}
 use Rattle.vms_cursors.specs.RatingClauses.{facts_with}

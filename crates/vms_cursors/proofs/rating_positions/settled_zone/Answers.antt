@@ -1,5 +1,5 @@
 -- The next zone is visited, or there is none.
-use Rattle.std.proofs.Common.{◌≡◌, ◌<◌, ◌≤◌, ◌∙◌, length, ap, arith}
+use Rattle.std.proofs.Common.{◌<◌, ◌∙◌, length, ap, arith}
 use Rattle.vms_cursors.specs.declared.rating_positions.RatingPosition.TheVariants.{Numbers, Zones}
 use Rattle.vms_cursors.specs.RatingClauses.{facts_with}
 use Rattle.vms_cursors.proofs.RatingPlans.{zones-are_numbers, zones-skipped}

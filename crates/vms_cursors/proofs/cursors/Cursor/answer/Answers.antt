@@ -2,10 +2,11 @@
 use Rattle.std.proofs.Common.{sym, subst}
 use Rattle.vms_calls.specs.Common.{facts_of}
 use Rattle.vms_calls.specs.declared.page_calls.PageAnswer.TheVariants as answer
+use Rattle.vms_cursors.specs.Burials.{burial_at}
 use Rattle.vms_cursors.specs.Calls.{AnswersCursor, IsWithin, cursor_at}
 use Rattle.vms_cursors.specs.Cursors.{IsSame}
 use Rattle.vms_cursors.specs.Ratings.{rating_at}
-use Rattle.vms_cursors.specs.declared.cursors.Cursor.TheVariants.{Rates}
+use Rattle.vms_cursors.specs.declared.cursors.Cursor.TheVariants.{Bury, Rates}
 use Rattle.vms_cursors.proofs.Goes.{answering-same}
 use Rattle.vms_cursors.proofs.cursors.Cursor.answer.Goals as goal
 
@@ -25,3 +26,20 @@ returns-in-Rates-clause-same g c = λ header base p h answers.
 pub returns-in-Rates-clause-within : goal.returns-in-Rates-clause-within
 returns-in-Rates-clause-within g c = λ shape within.
     let both = subst (IsWithin shape) c.in-Rates.is within in (both.0, c.answer.ensures.within shape both.1)
+
+pub returns-in-Bury-clause-same : goal.returns-in-Bury-clause-same
+returns-in-Bury-clause-same g c = λ header base p h answers.
+    let P = g.R.ThresholdRules.pressure in
+    let N = g.R.ThresholdRules.normal in
+    let cpu = c.in-Bury.cpu in
+    let facts = facts_of header base in
+    subst (λ s. IsSame (cursor_at header base p P N h s) (cursor_at header base p P N h (Bury cpu c.answer-in-Bury.result)))
+    (sym c.in-Bury.is)
+    (answering-same (λ made. answer.Done) (burial_at facts p P N cpu h c.in-Bury.at)
+    (burial_at facts p P N cpu h c.answer-in-Bury.result)
+    (c.answer-in-Bury.ensures.same facts p cpu h
+    (subst (λ s. AnswersCursor header base p P N h s c.args.chosen c.args.mark) c.in-Bury.is answers)))
+
+pub returns-in-Bury-clause-within : goal.returns-in-Bury-clause-within
+returns-in-Bury-clause-within g c = λ shape within.
+    c.answer-in-Bury.ensures.within shape (subst (IsWithin shape) c.in-Bury.is within)

@@ -1,4 +1,4 @@
--- A fold and the calls that give thresholds begin with their whole plans.
+-- A fold, the calls that give thresholds and a burial begin with their whole plans.
 use Rattle.std.proofs.Common.{◌≡◌, Bool, ap, refl, ◌∙◌, subst, sym}
 use Rattle.std.specs.Prelude.{None, Option, Some}
 use Rattle.vms_calls.specs.Common.{ByNormal, ByPressure, CpuId, PlaceId, facts_of}
@@ -13,7 +13,7 @@ use Rattle.vms_cursors.specs.Folds.{fold_at}
 use Rattle.vms_cursors.specs.declared.fold_positions.FoldPosition.TheVariants.{Places}
 use Rattle.vms_cursors.specs.declared.folds.Fold.{Fold}
 use Rattle.vms_cursors.specs.declared.rating_calls.RatingCall.TheVariants.{Normal, Pressure}
-use Rattle.vms_cursors.proofs.CursorBegins.{rating-begins, rating-within}
+use Rattle.vms_cursors.proofs.CursorBegins.{burial-begins, burial-within, rating-begins, rating-within}
 use Rattle.vms_cursors.proofs.RatingBegins.{normal-begins, pressure-begins}
 use Rattle.vms_cursors.proofs.FoldPlans.{fold-begins}
 use Rattle.vms_cursors.proofs.Goes.{same-runs}
@@ -76,3 +76,20 @@ returns-in-SetNormal-clause-known g c = c.begin_rating-in-SetNormal.ensures.know
 pub returns-in-SetNormal-clause-within : goal.returns-in-SetNormal-clause-within
 returns-in-SetNormal-clause-within g c = λ shape within. rating-within (Normal c.in-SetNormal.node) shape
     (subst (IsCallWithin shape) c.in-SetNormal.is within) c.begin_rating-in-SetNormal.result c.begin_rating-in-SetNormal.ensures.begins
+
+pub returns-in-Bury-clause-begins : goal.returns-in-Bury-clause-begins
+returns-in-Bury-clause-begins g c = λ header base p h.
+    burial-begins c.in-Bury.cpu header base p g.R.ThresholdRules.pressure g.R.ThresholdRules.normal h c.args.call
+    c.in-Bury.is c.args.owner c.begin_burial.result c.begin_burial.ensures.known c.begin_burial.ensures.begins
+
+pub returns-in-Bury-clause-known : goal.returns-in-Bury-clause-known
+returns-in-Bury-clause-known g c = c.begin_burial.ensures.known ∙ known-Bury c.args.owner c.in-Bury.cpu
+    ∙ ap (has_cursor c.args.owner) (sym c.in-Bury.is)
+  where
+    known-Bury : (owner : Option CpuId) (cpu : CpuId) → owns_none owner ≡ has_cursor owner (page.Bury cpu)
+    known-Bury None cpu = refl
+    known-Bury (Some own) cpu = refl
+
+pub returns-in-Bury-clause-within : goal.returns-in-Bury-clause-within
+returns-in-Bury-clause-within g c = λ shape within.
+    burial-within c.in-Bury.cpu shape c.begin_burial.result c.begin_burial.ensures.begins

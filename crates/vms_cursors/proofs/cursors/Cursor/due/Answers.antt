@@ -1,8 +1,9 @@
 -- What a position names is what the cursor names, with the answer told as that of a call.
 use Rattle.std.proofs.Common.{sym, subst}
 use Rattle.std.specs.Prelude.{IfSome}
-use Rattle.vms_calls.specs.Common.{Shape, after, facts_of}
+use Rattle.vms_calls.specs.Common.{Shape, facts_of}
 use Rattle.vms_calls.specs.declared.page_calls.PageAnswer.TheVariants as answer
+use Rattle.vms_cursors.specs.Burials.{burial_at}
 use Rattle.vms_cursors.specs.Changes.{change_at}
 use Rattle.vms_cursors.specs.Cursors.{HasEnded, IsDue}
 use Rattle.vms_cursors.specs.Folds.{fold_at}
@@ -11,8 +12,8 @@ use Rattle.vms_cursors.specs.Ratings.{rating_at}
 use Rattle.vms_cursors.specs.Snapshots.{snapshot_answer, snapshot_at}
 use Rattle.vms_cursors.specs.Tests.{test_answer, test_at}
 use Rattle.vms_cursors.specs.declared.cursors.Cursor.TheVariants.{Change, Value, System, Snapshot, Test, Fold}
-use Rattle.vms_cursors.specs.declared.cursors.Cursor.TheVariants.{Rates}
-use Rattle.vms_cursors.proofs.CursorGoes.{due-as, ended-as, rates-due, rates-ended, some-due}
+use Rattle.vms_cursors.specs.declared.cursors.Cursor.TheVariants.{Bury, Rates}
+use Rattle.vms_cursors.proofs.CursorGoes.{buries-due, buries-ended, due-as, ended-as, rates-due, rates-ended, some-due}
 use Rattle.vms_cursors.proofs.Goes.{answering-ended}
 use Rattle.vms_cursors.proofs.cursors.Cursor.due.Goals as goal
 
@@ -110,3 +111,22 @@ returns-in-Rates-clause-ended g c = λ header base p h same none.
     (rating_at (facts_of header base) p P N c.in-Rates.call h c.in-Rates.at) (tt {0})
     (rates-ended header base p P N h c.args.layout.now same c.in-Rates.call c.in-Rates.at
     (c.due-in-Rates.ensures.ended none)))
+
+pub returns-in-Bury-clause-due : goal.returns-in-Bury-clause-due
+returns-in-Bury-clause-due g c = λ header base p h same.
+    let P = g.R.ThresholdRules.pressure in
+    let N = g.R.ThresholdRules.normal in
+    due-as header base p P N h c.args.self (Bury c.in-Bury.cpu c.in-Bury.at) c.in-Bury.is c.due-in-Bury.result
+    (some-due (λ made. answer.Done) (burial_at (facts_of header base) p P N c.in-Bury.cpu h c.in-Bury.at)
+    c.due-in-Bury.result (buries-due header base p P N h c.args.layout.now same c.in-Bury.cpu c.in-Bury.at
+    c.due-in-Bury.result c.due-in-Bury.ensures.due))
+
+pub returns-in-Bury-clause-ended : goal.returns-in-Bury-clause-ended
+returns-in-Bury-clause-ended g c = λ header base p h same none.
+    let P = g.R.ThresholdRules.pressure in
+    let N = g.R.ThresholdRules.normal in
+    ended-as header base p P N h c.args.self (Bury c.in-Bury.cpu c.in-Bury.at) c.in-Bury.is
+    (answering-ended (λ made. answer.Done)
+    (burial_at (facts_of header base) p P N c.in-Bury.cpu h c.in-Bury.at) (tt {0})
+    (buries-ended header base p P N h c.args.layout.now same c.in-Bury.cpu c.in-Bury.at
+    (c.due-in-Bury.ensures.ended none)))

@@ -2,6 +2,7 @@
 use Rattle.std.proofs.Common.{[], ◌∷◌, sym, subst}
 use Rattle.vms_calls.specs.Common.{Shape, after, facts_of}
 use Rattle.vms_calls.specs.declared.page_calls.PageAnswer.TheVariants as answer
+use Rattle.vms_cursors.specs.Burials.{burial_at}
 use Rattle.vms_cursors.specs.Changes.{change_at}
 use Rattle.vms_cursors.specs.Cursors.{GoesOn, Stops}
 use Rattle.vms_cursors.specs.Folds.{fold_at}
@@ -10,8 +11,8 @@ use Rattle.vms_cursors.specs.Ratings.{rating_at}
 use Rattle.vms_cursors.specs.Snapshots.{snapshot_at}
 use Rattle.vms_cursors.specs.Tests.{test_at}
 use Rattle.vms_cursors.specs.declared.cursors.Cursor.TheVariants.{Change, Value, System, Snapshot, Test, Fold}
-use Rattle.vms_cursors.specs.declared.cursors.Cursor.TheVariants.{Rates}
-use Rattle.vms_cursors.proofs.CursorGoes.{goes-as, rates-goes, rates-stops, stops-as}
+use Rattle.vms_cursors.specs.declared.cursors.Cursor.TheVariants.{Bury, Rates}
+use Rattle.vms_cursors.proofs.CursorGoes.{buries-goes, buries-stops, goes-as, rates-goes, rates-stops, stops-as}
 use Rattle.vms_cursors.proofs.Goes.{answering-goes, answering-stops}
 use Rattle.vms_cursors.proofs.cursors.Cursor.next.Goals as goal
 
@@ -132,3 +133,23 @@ returns-in-None-next-4-clause-stops g c = λ header base p h same none.
     (answering-stops (λ made. answer.Done) (rating_at (facts_of header base) p P N c.in-Rates.call h c.in-Rates.at)
     c.args.step (rates-stops header base p P N h c.args.layout.now same c.in-Rates.call c.in-Rates.at c.args.step
     (c.in-None-next-4.ensures.stops none)))
+
+pub returns-in-Some-next-5-clause-goes : goal.returns-in-Some-next-5-clause-goes
+returns-in-Some-next-5-clause-goes g c = λ header base p h same.
+    let P = g.R.ThresholdRules.pressure in
+    let N = g.R.ThresholdRules.normal in
+    goes-as header base p P N h c.args.self (Bury c.in-Bury.cpu c.in-Bury.at) c.in-Bury.is c.args.step
+    (Bury c.in-Bury.cpu c.in-Some-next-5.later)
+    (answering-goes (λ made. answer.Done) (burial_at (facts_of header base) p P N c.in-Bury.cpu h c.in-Bury.at)
+    (burial_at (facts_of header base) p P N c.in-Bury.cpu (after p (c.args.step ∷ []) h) c.in-Some-next-5.later)
+    c.args.step (buries-goes header base p P N h c.args.layout.now same c.in-Bury.cpu c.in-Bury.at c.args.step
+    c.in-Some-next-5.later c.in-Some-next-5.ensures.goes))
+
+pub returns-in-None-next-5-clause-stops : goal.returns-in-None-next-5-clause-stops
+returns-in-None-next-5-clause-stops g c = λ header base p h same none.
+    let P = g.R.ThresholdRules.pressure in
+    let N = g.R.ThresholdRules.normal in
+    stops-as header base p P N h c.args.self (Bury c.in-Bury.cpu c.in-Bury.at) c.in-Bury.is c.args.step
+    (answering-stops (λ made. answer.Done) (burial_at (facts_of header base) p P N c.in-Bury.cpu h c.in-Bury.at)
+    c.args.step (buries-stops header base p P N h c.args.layout.now same c.in-Bury.cpu c.in-Bury.at c.args.step
+    (c.in-None-next-5.ensures.stops none)))

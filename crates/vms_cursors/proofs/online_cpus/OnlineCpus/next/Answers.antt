@@ -1,5 +1,5 @@
 -- A CPU that isn't online is passed.
-use Rattle.std.proofs.Common.{◌<◌, ◌≤◌, ◌∙◌, sym, arith}
+use Rattle.std.proofs.Common.{◌∙◌, sym, arith}
 use Rattle.vms_cursors.proofs.FlaggedCpus.{flagged-none, flagged-skipped}
 use Rattle.vms_cursors.proofs.online_cpus.OnlineCpus.next.Goals as goal
 

@@ -1,11 +1,8 @@
 -- Where no rule is asked nothing changes.
 use Rattle.std.proofs.Common.{subst, sym}
-use Rattle.vms_calls.specs.Common.{Shape}
 use Rattle.vms_cursors.specs.Cursors.{IsSame}
 use Rattle.vms_cursors.specs.RatingClauses.{Answers}
 use Rattle.vms_cursors.specs.Ratings.{IsAnswered, IsPositionWithin, rating_at}
-use Rattle.vms_cursors.specs.declared.rating_positions.RatingPosition.{RatingPosition}
-use Rattle.vms_cursors.specs.declared.rating_positions.RatingPosition.TheVariants.{Asks}
 use Rattle.vms_cursors.proofs.rating_positions.RatingPosition.answer.Goals as goal
 
 pub returns-in-Asks-clause-same : goal.returns-in-Asks-clause-same
