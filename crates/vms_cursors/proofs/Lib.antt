@@ -18,3 +18,5 @@ pub mod RatingBegins
 pub mod CursorBegins
 pub mod Sequences
 pub mod BurialGoes
+pub mod OpenPositions
+pub mod OpenCursors

@@ -13,3 +13,4 @@ pub mod Ratings
 pub mod RatingClauses
 pub mod Burials
 pub mod BurialClauses
+pub mod Completions

@@ -1,0 +1,12 @@
+-- The plan at each position is open, and for each step that is due there is one that fits.
+use Rattle.vms_cursors.proofs.OpenCursors.{cursor-ends, cursor-open}
+use Rattle.vms_cursors.proofs.laws.cursors_can_be_completed.Goals as goal
+
+pub returns-clause-stays_open : goal.returns-clause-stays_open
+returns-clause-stays_open g c = λ header base p h cursor.
+    cursor-open header base p g.R.ThresholdRules.pressure g.R.ThresholdRules.normal h cursor
+
+pub returns-clause-completed : goal.returns-clause-completed
+returns-clause-completed g c = λ header base p h cursor rules.
+    cursor-ends header base p g.R.ThresholdRules.pressure g.R.ThresholdRules.normal h
+    c.plans_stay_open.ensures.fits rules cursor
