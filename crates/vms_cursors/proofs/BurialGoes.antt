@@ -59,7 +59,8 @@ module _ (facts : Facts) (p : ℕ) (pressure normal : ZoneSize → ℕ → ℕ �
       pub removals-go : (online : OnlineCpus) → SetO c ≡ step
           → GoesOn here step (burial_at facts p pressure normal c (after p (step ∷ []) h) (Rates (States online 0)))
       removals-go online same =
-          let later = λ (s : Step). burial_at facts p pressure normal c (after p (s ∷ []) h) (Rates (States online 0)) in
+          let later = λ (s : Step). burial_at facts p pressure normal c (after p (s ∷ []) h)
+          (Rates (States online 0)) in
           goes-along (waits (Makes (SetO c)) refreshed) here step (later step) (later step) removal-is refl
           (waits-goes_to (Makes (SetO c)) refreshed (SetO c) step later refl same
           (refresh-begins facts p pressure normal (after p (SetO c ∷ []) h) online))

@@ -23,11 +23,15 @@ some-due tell plan (Some d) is = answering-due tell plan d is
 
 module _ (header : Header) (base : State) (p : ℕ) (pressure normal : ZoneSize → ℕ → ℕ → Type 0) (h : History)
     (self whole : Cursor) (is : self ≡ whole) where
-  pub goes-as : (step : Step) (later : Cursor) → GoesOn (cursor_at header base p pressure normal h whole) step (cursor_at header base p pressure normal (after p (step ∷ []) h) later)
-      → GoesOn (cursor_at header base p pressure normal h self) step (cursor_at header base p pressure normal (after p (step ∷ []) h) later)
-  goes-as step later goes = subst (λ s. GoesOn (cursor_at header base p pressure normal h s) step (cursor_at header base p pressure normal (after p (step ∷ []) h) later)) (sym is) goes
+  pub goes-as : (step : Step) (later : Cursor) → GoesOn (cursor_at header base p pressure normal h whole) step
+      (cursor_at header base p pressure normal (after p (step ∷ []) h) later)
+      → GoesOn (cursor_at header base p pressure normal h self) step
+      (cursor_at header base p pressure normal (after p (step ∷ []) h) later)
+  goes-as step later goes = subst (λ s. GoesOn (cursor_at header base p pressure normal h s) step
+      (cursor_at header base p pressure normal (after p (step ∷ []) h) later)) (sym is) goes
 
-  pub stops-as : (step : Step) → Stops (cursor_at header base p pressure normal h whole) step → Stops (cursor_at header base p pressure normal h self) step
+  pub stops-as : (step : Step) → Stops (cursor_at header base p pressure normal h whole) step → Stops
+      (cursor_at header base p pressure normal h self) step
   stops-as step stops = subst (λ s. Stops (cursor_at header base p pressure normal h s) step) (sym is) stops
 
   pub due-as : (due : Option DueStep) → IfSome due (λ d. IsDue (cursor_at header base p pressure normal h whole) d)
@@ -36,7 +40,8 @@ module _ (header : Header) (base : State) (p : ℕ) (pressure normal : ZoneSize 
 
   pub ended-as : HasEnded (cursor_at header base p pressure normal h whole) (answer_of header whole)
       → HasEnded (cursor_at header base p pressure normal h self) (answer_of header self)
-  ended-as ended = subst (λ s. HasEnded (cursor_at header base p pressure normal h s) (answer_of header s)) (sym is) ended
+  ended-as ended = subst (λ s. HasEnded (cursor_at header base p pressure normal h s) (answer_of header s))
+      (sym is) ended
 
 -- what a position of a call that gives thresholds says of the plan in a header
 module _ (header : Header) (base : State) (p : ℕ) (pressure normal : ZoneSize → ℕ → ℕ → Type 0) (h : History)

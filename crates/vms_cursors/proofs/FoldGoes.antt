@@ -1,5 +1,6 @@
 -- How a fold goes on from each position.
-use Rattle.std.proofs.Common.{◌≡◌, ◌≢◌, ℕ, suc, zero, ◌+◌, ◌-◌, ◌*◌, ◌/◌, ◌<◌, ◌≤◌, ◌+ℤ◌, ℤ, pos, negsuc, Bool, true, false}
+use Rattle.std.proofs.Common.{◌≡◌, ◌≢◌, ℕ, suc, zero, ◌+◌, ◌-◌, ◌*◌, ◌/◌, ◌<◌, ◌≤◌, ◌+ℤ◌, ℤ, pos, negsuc, Bool, true}
+use Rattle.std.proofs.Common.{false}
 use Rattle.std.proofs.Common.{List, [], ◌∷◌, ◌++◌, length, drop, add-one, refl, sym, ap, subst, ◌∙◌, arith, drop-cons}
 use Rattle.std.proofs.lemmas.Int.{ints}
 use Rattle.std.proofs.lemmas.List.{drop_all}
@@ -147,8 +148,10 @@ module _ (shape : Shape) (taken : Taken) where
 
   module _ (fold : Fold) where
     -- places
-    pub places-none : (g : ℕ) → place_count shape ≤ g → fold_at shape fold (Places taken g) ≡ items_from shape taken [] 0
-    places-none g most = ap (λ n. and_then (places_plan shape fold.is_own fold.cpu g n []) (λ all. items_from shape taken all 0))
+    pub places-none : (g : ℕ) → place_count shape ≤ g → fold_at shape fold (Places taken g) ≡ items_from
+        shape taken [] 0
+    places-none g most = ap (λ n. and_then (places_plan shape fold.is_own fold.cpu g n [])
+        (λ all. items_from shape taken all 0))
         (none_left (place_count shape) g most)
 
     module _ (g : ℕ) (less : g < place_count shape) (groups : taken.groups ≡ shape.positions / 8 * g)
@@ -313,7 +316,8 @@ module _ (shape : Shape) (taken : Taken) where
 
       -- the next entry that isn't 0
       module _ (from n : ℕ)
-          (same : (m : ℕ) → in_turn to_place (m + from) (drop from w.values) ≡ in_turn to_place (m + n) (drop n w.values))
+          (same : (m : ℕ) → in_turn to_place (m + from) (drop from w.values) ≡ in_turn to_place (m + n)
+          (drop n w.values))
         where
           abbrev here : Plan (Unit {0})
           here = fold_at shape fold (Entries taken g number w from)
@@ -333,7 +337,8 @@ module _ (shape : Shape) (taken : Taken) where
             entry-is = at ∙ ap (λ ks. makes_all ks (groups_from shape taken fold g number))
                 (entry-some w.values k n (omega (arith, whole, less)) z is some)
                 ∙ ap (λ c. makes (AddG c z) later)
-                (let one : record { number = k + n } ≡ counter = ap (λ m. record { number = m }) (sym counter_is) in one)
+                (let one : record { number = k + n } ≡ counter = ap (λ m. record { number = m })
+                (sym counter_is) in one)
 
             pub entry-due : IsDue here (Makes (AddG counter z))
             entry-due = makes-due here later (AddG counter z) entry-is

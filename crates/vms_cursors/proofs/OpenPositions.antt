@@ -8,12 +8,14 @@ use Rattle.vms_calls.specs.Common.{WaterMark, ZoneSize, acknowledges, after, car
 use Rattle.vms_calls.specs.Common.{first_of_group, free_pages, group_of, in_turn, is_doubtful, item_count, online_from}
 use Rattle.vms_calls.specs.Common.{place_count, rating_steps, size_at, to_place}
 use Rattle.vms_calls.specs.LookReadings.{differential_told, mark_told, online_told, value_told}
-use Rattle.vms_plans.specs.declared.due_steps.DueStep.TheVariants.{Exchanges, ExchangesZeros, LoadsGroup, LoadsThreshold}
+use Rattle.vms_plans.specs.declared.due_steps.DueStep.TheVariants.{Exchanges, ExchangesZeros, LoadsGroup}
+use Rattle.vms_plans.specs.declared.due_steps.DueStep.TheVariants.{LoadsThreshold}
 use Rattle.vms_plans.specs.declared.due_steps.DueStep.TheVariants.{Takes}
 use Rattle.vms_plans.specs.Common.{Fits, Plan, acknowledged_plan, and_then, asks, carrying, either, ends}
 use Rattle.vms_plans.specs.Common.{exchanged_plan, found_plan, frees_plan, groups_plan, loaded_plan, looks_plan, makes}
 use Rattle.vms_plans.specs.Common.{makes_all, mark_plan, node_steps, place_groups, place_plan, places_plan, rates_plan}
-use Rattle.vms_plans.specs.Common.{recorded, refuses, state_told, states_plan, taken_plan, tested, visit_plan, visits_plan}
+use Rattle.vms_plans.specs.Common.{recorded, refuses, state_told, states_plan, taken_plan, tested, visit_plan}
+use Rattle.vms_plans.specs.Common.{visits_plan}
 use Rattle.vms_plans.specs.Common.{refresh_plan, waits, won_plan}
 use Rattle.vms_cursors.specs.Burials.{after_burial_fold, burial_at, fold_of}
 use Rattle.vms_cursors.specs.Changes.{change_at}
@@ -21,7 +23,8 @@ use Rattle.vms_cursors.specs.Folds.{fold_at, groups_from, items_from, items_left
 use Rattle.vms_cursors.specs.Loads.{system_at, value_at}
 use Rattle.vms_cursors.specs.OnlineCpus.{flagged}
 use Rattle.vms_cursors.specs.RatingCalls.{after_zones, choice_in, spares, visited_from}
-use Rattle.vms_cursors.specs.Ratings.{nodes_left, online_in, online_plan, rated_plan, rating_at, thresholds_left, zone_end}
+use Rattle.vms_cursors.specs.Ratings.{nodes_left, online_in, online_plan, rated_plan, rating_at, thresholds_left}
+use Rattle.vms_cursors.specs.Ratings.{zone_end}
 use Rattle.vms_cursors.specs.Ratings.{zones_plan}
 use Rattle.vms_cursors.specs.Snapshots.{snapshot_at}
 use Rattle.vms_cursors.specs.Tests.{test_at}
@@ -77,7 +80,8 @@ module _ (Needs : (ℕ → ℕ → Type 0) → Type 0) where
   open-makes_all [] plan here = here
   open-makes_all (k ∷ ks) plan here = λ step fits. open-makes_all ks plan here
 
-  open-either : {A : Type 0} (b : Bool) (plan other : Plan A) → IsGood plan → IsGood other → IsGood (either b plan other)
+  open-either : {A : Type 0} (b : Bool) (plan other : Plan A) → IsGood plan → IsGood other → IsGood
+      (either b plan other)
   open-either true plan other here there = here
   open-either false plan other here there = there
 
@@ -318,7 +322,8 @@ module _ (Needs : (ℕ → ℕ → Type 0) → Type 0) where
           open-and_then (recorded p h rates) (zone_end facts p pressure normal call seen g)
           (open-recorded p h rates (rates-open online g m h)) (zone_end-open seen g)
       rating-open h (Mark seen g t m) =
-          sets-open seen g t (SetM (record { number = g }) m ∷ thresholds_left facts p pressure normal call seen g t 0) h
+          sets-open seen g t (SetM (record { number = g }) m ∷ thresholds_left facts p pressure normal
+          call seen g t 0) h
       rating-open h (Thresholds seen g t c) =
           sets-open seen g t (thresholds_left facts p pressure normal call seen g t c) h
       rating-open h (Nodes seen i c) =

@@ -8,7 +8,8 @@ use Rattle.vms_calls.specs.Common.{Step, ZoneSize, after, is_online, largest_on,
 use Rattle.vms_calls.specs.Common.{size_at, threshold_steps}
 use Rattle.vms_calls.specs.LookReadings.{mark_told}
 use Rattle.vms_plans.specs.declared.due_steps.DueStep.TheVariants.{LoadsAcknowledged, LoadsMark, LoadsState, Makes}
-use Rattle.vms_plans.specs.Common.{Plan, Runs, and_then, either, ends, makes_all, mark_plan, rates_plan, recorded, state_told}
+use Rattle.vms_plans.specs.Common.{Plan, Runs, and_then, either, ends, makes_all, mark_plan, rates_plan, recorded}
+use Rattle.vms_plans.specs.Common.{state_told}
 use Rattle.vms_plans.specs.Common.{states_plan, waits}
 use Rattle.vms_cursors.specs.Cursors.{GoesOn, IsDue, IsSame, Stops}
 use Rattle.vms_cursors.specs.OnlineCpus.{flagged, is_flagged}
@@ -177,7 +178,8 @@ module _ (facts : Facts) (p : ℕ) (pressure normal : ZoneSize → ℕ → ℕ �
             load = LoadM zone read.mark read.number
 
             by : (later : Step → Plan (Unit {0})) → after_mark load ≡ later load → GoesOn at step (later step)
-            by later same = goes-along (waits (LoadsMark zone) after_mark) at step (later step) (later step) mark-is refl
+            by later same = goes-along (waits (LoadsMark zone) after_mark) at step (later step)
+                (later step) mark-is refl
                 (waits-goes_to (LoadsMark zone) after_mark load step later refl (mark-read zone step read told) same)
 
             chosen : (b : Bool) → spares call read.mark ≡ b → after_mark load

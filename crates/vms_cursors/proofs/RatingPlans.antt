@@ -7,7 +7,8 @@ use Rattle.std.proofs.Math.Path.{fun_ext}
 use Rattle.std.proofs.lemmas.Bool.{cases_lt}
 use Rattle.std.proofs.lemmas.List.{drop_all}
 use Rattle.std.specs.Prelude.{slice_index_or}
-use Rattle.vms_calls.specs.Common.{CpuId, CpuState, Facts, History, MarkRead, SetT, Shape, Step, ZoneSize, after, in_turn}
+use Rattle.vms_calls.specs.Common.{CpuId, CpuState, Facts, History, MarkRead, SetT, Shape, Step, ZoneSize, after}
+use Rattle.vms_calls.specs.Common.{in_turn}
 use Rattle.vms_calls.specs.Common.{largest_on, online_from, threshold_steps}
 use Rattle.vms_plans.specs.declared.due_steps.DueStep.TheVariants.{LoadsState}
 use Rattle.vms_plans.specs.Common.{Plan, and_then, ends, makes_all, mark_plan, recorded, state_told}
@@ -96,7 +97,8 @@ module _ (facts : Facts) (p : ℕ) (pressure normal : ZoneSize → ℕ → ℕ �
       → states_from facts p pressure normal call online c h ≡ online_plan facts p pressure normal call online h
   states-ended online c h most =
       ap (λ n. and_then (recorded p h (states_plan c n []))
-      (λ (found : List CpuState × History). online_plan facts p pressure normal call (online ++ online_from c found.0) found.1))
+      (λ (found : List CpuState × History). online_plan facts p pressure normal call
+      (online ++ online_from c found.0) found.1))
       (none_left facts.layout.cpus c most)
       ∙ ap (λ cs. online_plan facts p pressure normal call cs h) (append-nil online)
 
@@ -153,7 +155,8 @@ module _ (facts : Facts) (p : ℕ) (pressure normal : ZoneSize → ℕ → ℕ �
           let gets = λ (found : MarkRead × History). recorded p found.1 (rated g found.0.mark found.1) in
           let goes_on = λ (visited : ℕ × History).
           visits_plan p online rated (left (g + 1)) (visited.0 ∷ []) visited.1 in
-          ap (λ gs. zones_plan facts p pressure normal call online before gs [] h) (visited-some facts.layout call g less is)
+          ap (λ gs. zones_plan facts p pressure normal call online before gs [] h)
+          (visited-some facts.layout call g less is)
           ∙ and_then-assoc (visit_plan p online rated g h) goes_on (end before)
           ∙ and_then-assoc loads gets (zone_end facts p pressure normal call seen g)
           ∙ ap (λ n. and_then (recorded p h (mark_plan g (flagged seen.online.flags 0 n)))
@@ -220,7 +223,8 @@ module _ (facts : Facts) (p : ℕ) (pressure normal : ZoneSize → ℕ → ℕ �
             ≡ nodes_left facts p pressure normal call seen (suc i) 0 ns
         rest-is [] = refl
         rest-is (n ∷ ns) = ap (λ m. threshold_steps (count + suc i)
-            (largest_on facts.layout all_thresholds n) (flagged seen.online.flags 0 m) ++ in_turn for_node (suc (suc i)) ns)
+            (largest_on facts.layout all_thresholds n) (flagged seen.online.flags 0 m) ++ in_turn for_node
+            (suc (suc i)) ns)
             (sym (all_left facts.layout.cpus))
 
         -- one more CPU
@@ -231,7 +235,8 @@ module _ (facts : Facts) (p : ℕ) (pressure normal : ZoneSize → ℕ → ℕ �
         node-some c less few is =
             at_node-is c less
             ∙ ap (λ cs. threshold_steps (count + i) (largest_on facts.layout all_thresholds node) cs
-            ++ in_turn for_node (suc i) (drop (suc i) nodes)) (flagged-some seen.online.flags facts.layout.cpus c few is)
+            ++ in_turn for_node (suc i) (drop (suc i) nodes))
+            (flagged-some seen.online.flags facts.layout.cpus c few is)
             ∙ ap (λ ks. SetT (record { number = c }) (record { number = count + i })
             (largest_on facts.layout all_thresholds node) ∷ ks) (sym (at_node-is (c + 1) less))
 

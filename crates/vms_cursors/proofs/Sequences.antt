@@ -1,5 +1,6 @@
 -- A plan, and then another that goes by its answer and by the history after its steps.
-use Rattle.std.proofs.Common.{◌≡◌, ℕ, suc, zero, ◌+◌, ◌-◌, ◌*◌, ◌/◌, drop, Bool, true, false, List, [], ◌∷◌, ◌++◌, refl, sym, ap, subst, ◌∙◌}
+use Rattle.std.proofs.Common.{◌≡◌, ℕ, suc, zero, ◌+◌, ◌-◌, ◌*◌, ◌/◌, drop, Bool, true, false, List, [], ◌∷◌, ◌++◌, refl}
+use Rattle.std.proofs.Common.{sym, ap, subst, ◌∙◌}
 use Rattle.vms_calls.specs.Common.{CpuId, Diffs, History, Shape, Step, acknowledges, after, counter_at, first_of_group}
 use Rattle.vms_calls.specs.Common.{group_of, in_turn, item_count, place_count, to_place}
 use Rattle.std.specs.Prelude.{None, Option, Some}
@@ -51,7 +52,8 @@ module _ {A B : Type 0} (p : ℕ) (h : History) (plan : Plan A) (more : A × His
     begun : (step : Step) (steps : List Step) (b : B) (parts : SplitsAfter p plan h more (step ∷ steps) b)
         → (first : List Step) → first ≡ parts.first
         → (ks : List Step) × (parts.first ≡ step ∷ ks) × (steps ≡ ks ++ parts.rest)
-    begun step steps b parts [] is = absurd (unended parts.answer (subst (λ x. Runs plan x parts.answer) (sym is) parts.run))
+    begun step steps b parts [] is = absurd (unended parts.answer
+        (subst (λ x. Runs plan x parts.answer) (sym is) parts.run))
     begun step steps b parts (k ∷ ks) is =
         let whole_is : step ∷ steps ≡ k ∷ (ks ++ parts.rest) =
         parts.in_order ∙ ap (λ x. x ++ parts.rest) (sym is) in
@@ -65,7 +67,8 @@ module _ {A B : Type 0} (p : ℕ) (h : History) (plan : Plan A) (more : A × His
           let found = begun step steps b parts parts.first refl in
           is.0 step found.0 parts.answer (subst (λ x. Runs plan x parts.answer) found.1 parts.run)),
       (λ b run. let parts = splits-and_after p plan h more [] b run in
-          unended parts.answer (subst (λ x. Runs plan x parts.answer) (nothing parts.first parts.rest parts.in_order) parts.run)),
+          unended parts.answer (subst (λ x. Runs plan x parts.answer)
+          (nothing parts.first parts.rest parts.in_order) parts.run)),
     )
       where
         nothing : (first rest : List Step) → [] ≡ first ++ rest → first ≡ []
@@ -134,4 +137,5 @@ module _ (shape : Shape) (fold : Fold) where
   fold-asks (Entries taken g number w n) =
       none-makes_all (in_turn to_place (first_of_group (taken.groups - 1) + n) (drop n w.values))
       (groups_from shape taken fold g number) (from_groups-ask taken g number)
-  fold-asks (Items taken i) = none-makes_all (items_left shape taken [] i (item_count shape - i)) (ends (tt {0})) (tt {0})
+  fold-asks (Items taken i) = none-makes_all (items_left shape taken [] i (item_count shape - i))
+      (ends (tt {0})) (tt {0})

@@ -5,12 +5,15 @@ use Rattle.std.proofs.Math.Dec.{T_prop}
 use Rattle.std.proofs.lemmas.Bool.{and_parts, eq-eqb, eqb-true}
 use Rattle.std.specs.Prelude.{Option, Some, None}
 use Rattle.vms_calls.specs.Common.{AreBytes, AddG, AddS, CounterId, CpuId, CpuState, Diffs, GroupId, ItemId, LoadD}
-use Rattle.vms_calls.specs.Common.{LoadG, LoadO, LoadM, LoadS, LoadT, MarkRead, Miss, PlaceId, SetA, SetM, SetT, Step, Take, LoadA}
-use Rattle.vms_plans.specs.declared.due_steps.DueStep.TheVariants.{LoadsAcknowledged, LoadsGroup, LoadsMark, LoadsState, LoadsSystem}
+use Rattle.vms_calls.specs.Common.{LoadG, LoadO, LoadM, LoadS, LoadT, MarkRead, Miss, PlaceId, SetA, SetM, SetT, Step}
+use Rattle.vms_calls.specs.Common.{Take, LoadA}
+use Rattle.vms_plans.specs.declared.due_steps.DueStep.TheVariants.{LoadsAcknowledged, LoadsGroup, LoadsMark, LoadsState}
+use Rattle.vms_plans.specs.declared.due_steps.DueStep.TheVariants.{LoadsSystem}
 use Rattle.vms_plans.specs.declared.due_steps.DueStep.TheVariants.{LoadsThreshold, LoadsValue, Takes}
 use Rattle.vms_plans.specs.Common.{Fits}
 use Rattle.vms_cursors.specs.StepReadings.{added_in, added_to_item_in, group_in, mark_in, missed_in, state_in}
-use Rattle.vms_cursors.specs.StepReadings.{acknowledged_in, number_in, number_told_in, set_mark_in, set_threshold_in, system_in, taken_in, threshold_in, value_in}
+use Rattle.vms_cursors.specs.StepReadings.{acknowledged_in, number_in, number_told_in, set_mark_in, set_threshold_in}
+use Rattle.vms_cursors.specs.StepReadings.{system_in, taken_in, threshold_in, value_in}
 
 choice-some : {X : Type 0} (b : Bool) (x y : X) → (if b then Some x else None) ≡ Some y → (b ≡ true) × (x ≡ y)
 choice-some true x y is = (refl, cc)

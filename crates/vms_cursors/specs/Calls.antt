@@ -82,8 +82,8 @@ abbrev pub owns_none : Option CpuId → Bool
 owns_none None = true
 owns_none (Some c) = false
 
--- there is a cursor for a change by a pass that owns a CPU, for the calls that set thresholds and a burial by one that owns
--- none, and for looks, tests and folds
+-- there is a cursor for a change by a pass that owns a CPU, for the calls that set thresholds and a burial by one that
+-- owns none, and for looks, tests and folds
 abbrev pub has_cursor : Option CpuId → PageCall → Bool
 has_cursor None (call.Change k delta how) = false
 has_cursor owner (call.Change k delta how) = true

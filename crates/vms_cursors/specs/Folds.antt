@@ -35,7 +35,8 @@ module _ (shape : Shape) (taken : Taken) where
 
     -- from the next group of place g on
     abbrev pub groups_from : ℕ → Option ℕ → Plan (Unit {0})
-    groups_from g number = and_then (groups_plan fold.cpu taken.groups (shape.positions / 8 * (g + 1) - taken.groups) [])
+    groups_from g number = and_then (groups_plan fold.cpu taken.groups
+        (shape.positions / 8 * (g + 1) - taken.groups) [])
         (place_end g number)
 
 abbrev pub fold_at : Shape → Fold → FoldPosition → Plan (Unit {0})

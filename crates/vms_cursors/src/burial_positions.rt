@@ -1,6 +1,7 @@
 ghost use Rattle.std.specs.Prelude.{◌≡◌, ℕ, IfSome, IsNone};
 ghost use Rattle.vms_calls.specs.Common.{CpuId, Facts, History, IsLayout, Shape};
-ghost use Rattle.vms_cursors.specs.BurialClauses.{BurialAnswers, BurialDue, BurialEnded, BurialGoes, BurialStops, IsBurialAsked};
+ghost use Rattle.vms_cursors.specs.BurialClauses.{BurialAnswers, BurialDue, BurialEnded, BurialGoes, BurialStops};
+ghost use Rattle.vms_cursors.specs.BurialClauses.{IsBurialAsked};
 ghost use Rattle.vms_cursors.specs.Burials.{IsBurialAnswered, IsBurialWithin, burial_at, fold_of};
 ghost use Rattle.vms_cursors.specs.Cursors.{HasEnded, IsSame};
 ghost use Rattle.vms_cursors.specs.Folds.{fold_at};

@@ -1,6 +1,7 @@
 ghost use Rattle.std.specs.Prelude.{◌≡◌, ◌≢◌, ℕ, ◌+◌, ◌-◌, ◌*◌, ◌/◌, ◌<◌, ◌≤◌, [], IfSome, IsNone, Some, drop, pos};
 ghost use Rattle.std.specs.Prelude.{slice_index_or};
-ghost use Rattle.vms_calls.specs.Common.{IsLayout, acknowledges, first_of_group, in_turn, item_count, place_count, to_place};
+ghost use Rattle.vms_calls.specs.Common.{IsLayout, acknowledges, first_of_group, in_turn, item_count, place_count};
+ghost use Rattle.vms_calls.specs.Common.{to_place};
 ghost use Rattle.vms_cursors.specs.Cursors.{GoesOn, IsDue, HasEnded, Stops};
 ghost use Rattle.vms_cursors.specs.Folds.{IsFoldWithin, fold_at, items_left};
 ghost use Rattle.vms_cursors.specs.Totals.{total_at};

@@ -1,10 +1,12 @@
-ghost use Rattle.std.specs.Prelude.{◌≡◌, ℕ, ◌+◌, ◌-◌, ◌<◌, ◌≤◌, false, true, length, take, drop, slice_index_or, IfSome};
+ghost use Rattle.std.specs.Prelude.{◌≡◌, ℕ, ◌+◌, ◌-◌, ◌<◌, ◌≤◌, false, true, length, take, drop, slice_index_or};
+ghost use Rattle.std.specs.Prelude.{IfSome};
 ghost use Rattle.std.specs.Prelude.{IsNone};
 ghost use Rattle.vms_calls.specs.Common.{Facts, History, IsLayout, Shape, is_online as tells_online, largest_on};
 ghost use Rattle.vms_cursors.specs.Cursors.{IsSame};
 ghost use Rattle.vms_cursors.specs.OnlineCpus.{is_flagged};
 ghost use Rattle.vms_cursors.specs.RatingCalls.{IsRatingWithin, visits, visited_from};
-ghost use Rattle.vms_cursors.specs.RatingClauses.{Answers, IsAsked, RatingDue, RatingEnded, RatingGoes, RatingSame, RatingStops};
+ghost use Rattle.vms_cursors.specs.RatingClauses.{Answers, IsAsked, RatingDue, RatingEnded, RatingGoes, RatingSame};
+ghost use Rattle.vms_cursors.specs.RatingClauses.{RatingStops};
 ghost use Rattle.vms_cursors.specs.Ratings.{IsAnswered, IsPositionWithin, IsSettled, rating_at};
 ghost use Rattle.vms_cursors.specs.declared.rating_calls.RatingCall.{RatingCall};
 ghost use Rattle.vms_cursors.specs.declared.rating_positions.RatingPosition.TheVariants.{Asks, Mark, Nodes, Numbers};

@@ -6,7 +6,8 @@ use Rattle.vms_plans.specs.declared.due_steps.DueStep.TheVariants.{LoadsState, M
 use Rattle.vms_plans.specs.Common.{ends}
 use Rattle.vms_cursors.specs.RatingClauses.{facts_with}
 use Rattle.vms_cursors.specs.Ratings.{IsPositionWithin, IsSettled, rating_at}
-use Rattle.vms_cursors.specs.declared.rating_positions.RatingPosition.TheVariants.{Mark, Nodes, Numbers, States, Thresholds, Zones}
+use Rattle.vms_cursors.specs.declared.rating_positions.RatingPosition.TheVariants.{Mark, Nodes, Numbers, States}
+use Rattle.vms_cursors.specs.declared.rating_positions.RatingPosition.TheVariants.{Thresholds, Zones}
 use Rattle.vms_cursors.proofs.PlanEquations.{ended-along}
 use Rattle.vms_cursors.proofs.RatingAlong.{rating-as, rating-due, rating-ended}
 use Rattle.vms_cursors.proofs.RatingGoes.{known-due, states-due, threshold-is}
@@ -20,7 +21,8 @@ returns-in-States-clause-due g c =
     let N = g.R.ThresholdRules.normal in
     let at = States c.in-States.field-0 c.in-States.cpu in
     let settled = subst (IsSettled shape c.args.call) c.in-States.is c.requires.settled in
-    rating-due shape P N c.args.call c.args.position at (rating-as shape P N c.args.call c.args.position at c.in-States.is)
+    rating-due shape P N c.args.call c.args.position at (rating-as shape P N c.args.call c.args.position at
+    c.in-States.is)
     (Some (LoadsState (record { number = c.in-States.cpu })))
     (λ sizes base p h. states-due (facts_with shape sizes base) p P N c.args.call h c.in-States.field-0 c.in-States.cpu
     settled)
@@ -51,7 +53,8 @@ returns-in-Mark-clause-due g c =
     let at = Mark c.in-Mark.field-0 c.in-Mark.zone c.in-Mark.field-2 c.in-Mark.mark in
     let settled = subst (IsSettled shape c.args.call) c.in-Mark.is c.requires.settled in
     let step = SetM (record { number = c.in-Mark.zone }) c.in-Mark.mark in
-    rating-due shape P N c.args.call c.args.position at (rating-as shape P N c.args.call c.args.position at c.in-Mark.is)
+    rating-due shape P N c.args.call c.args.position at (rating-as shape P N c.args.call c.args.position
+    at c.in-Mark.is)
     (Some (Makes step))
     (λ sizes base p h. known-due (rating_at (facts_with shape sizes base) p P N c.args.call h at) step
     (λ s. rating_at (facts_with shape sizes base) p P N c.args.call (after p (s ∷ []) h)
@@ -109,4 +112,5 @@ returns-in-Zones-clause-ended g c = λ none.
     c.args.call settled.1) refl)
 
 pub returns-in-Asks-clause-ended : goal.returns-in-Asks-clause-ended
-returns-in-Asks-clause-ended g c = absurd (subst (IsSettled c.args.layout.now c.args.call) c.in-Asks.is c.requires.settled)
+returns-in-Asks-clause-ended g c = absurd (subst (IsSettled c.args.layout.now c.args.call) c.in-Asks.is
+    c.requires.settled)

@@ -79,6 +79,7 @@ returns-clause-same g c =
     rating-same shape P N c.args.call (Nodes c.args.seen c.args.node c.args.from)
     (Nodes c.args.seen (length c.nodes.result.now) 0)
     (λ sizes base p h. ap (λ ks. makes_all ks (ends (tt {0})))
-    (nodes-nobody (facts_with shape sizes base) p P N c.args.call h c.args.seen c.args.node c.args.from within none nobody
+    (nodes-nobody (facts_with shape sizes base) p P N c.args.call h c.args.seen c.args.node c.args.from
+    within none nobody
     ∙ ap (λ ns. nodes_left (facts_with shape sizes base) p P N c.args.call c.args.seen (length ns) 0
     (drop (length ns) shape.nodes)) (sym c.nodes.ensures.value)))

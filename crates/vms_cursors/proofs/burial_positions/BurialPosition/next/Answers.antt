@@ -9,7 +9,8 @@ returns-in-Folds-clause-goes g c =
     let shape = c.args.layout.now in
     let P = g.R.ThresholdRules.pressure in
     let N = g.R.ThresholdRules.normal in
-    subst (λ at. IfSome c.after_fold.result (λ later. BurialGoes shape P N c.args.cpu at c.args.step later)) (sym c.in-Folds.is)
+    subst (λ at. IfSome c.after_fold.result (λ later. BurialGoes shape P N c.args.cpu at c.args.step later))
+    (sym c.in-Folds.is)
     c.after_fold.ensures.goes
 
 pub returns-in-Folds-clause-stops : goal.returns-in-Folds-clause-stops
@@ -24,7 +25,8 @@ returns-in-Rates-clause-goes g c =
     let shape = c.args.layout.now in
     let P = g.R.ThresholdRules.pressure in
     let N = g.R.ThresholdRules.normal in
-    subst (λ at. IfSome c.after_rating.result (λ later. BurialGoes shape P N c.args.cpu at c.args.step later)) (sym c.in-Rates.is)
+    subst (λ at. IfSome c.after_rating.result (λ later. BurialGoes shape P N c.args.cpu at c.args.step later))
+    (sym c.in-Rates.is)
     c.after_rating.ensures.goes
 
 pub returns-in-Rates-clause-stops : goal.returns-in-Rates-clause-stops
@@ -32,4 +34,5 @@ returns-in-Rates-clause-stops g c = λ none.
     let shape = c.args.layout.now in
     let P = g.R.ThresholdRules.pressure in
     let N = g.R.ThresholdRules.normal in
-    subst (λ at. BurialStops shape P N c.args.cpu at c.args.step) (sym c.in-Rates.is) (c.after_rating.ensures.stops none)
+    subst (λ at. BurialStops shape P N c.args.cpu at c.args.step) (sym c.in-Rates.is)
+    (c.after_rating.ensures.stops none)

@@ -33,7 +33,8 @@ returns-in-Bury-clause-same g c = λ header base p h answers.
     let N = g.R.ThresholdRules.normal in
     let cpu = c.in-Bury.cpu in
     let facts = facts_of header base in
-    subst (λ s. IsSame (cursor_at header base p P N h s) (cursor_at header base p P N h (Bury cpu c.answer-in-Bury.result)))
+    subst (λ s. IsSame (cursor_at header base p P N h s) (cursor_at header base p P N h
+    (Bury cpu c.answer-in-Bury.result)))
     (sym c.in-Bury.is)
     (answering-same (λ made. answer.Done) (burial_at facts p P N cpu h c.in-Bury.at)
     (burial_at facts p P N cpu h c.answer-in-Bury.result)

@@ -40,12 +40,15 @@ returns-in-SetPressure-clause-begins g c = λ header base p h.
     let P = g.R.ThresholdRules.pressure in
     let N = g.R.ThresholdRules.normal in
     let facts = facts_of header base in
-    rating-begins (Pressure c.in-SetPressure.node) header base p P N h c.args.call (page.SetPressure c.in-SetPressure.node) c.in-SetPressure.is
-    (node_plan facts p (ByPressure P N) c.in-SetPressure.node h) refl (λ online. pressure-begins facts p P N h online c.in-SetPressure.node)
+    rating-begins (Pressure c.in-SetPressure.node) header base p P N h c.args.call
+    (page.SetPressure c.in-SetPressure.node) c.in-SetPressure.is
+    (node_plan facts p (ByPressure P N) c.in-SetPressure.node h) refl
+    (λ online. pressure-begins facts p P N h online c.in-SetPressure.node)
     c.args.owner c.begin_rating.result c.begin_rating.ensures.known c.begin_rating.ensures.begins
 
 pub returns-in-SetPressure-clause-known : goal.returns-in-SetPressure-clause-known
-returns-in-SetPressure-clause-known g c = c.begin_rating.ensures.known ∙ known-SetPressure c.args.owner c.in-SetPressure.node
+returns-in-SetPressure-clause-known g c = c.begin_rating.ensures.known ∙ known-SetPressure c.args.owner
+    c.in-SetPressure.node
     ∙ ap (has_cursor c.args.owner) (sym c.in-SetPressure.is)
   where
     known-SetPressure : (owner : Option CpuId) (n : PlaceId) → owns_none owner ≡ has_cursor owner (page.SetPressure n)
@@ -61,12 +64,16 @@ returns-in-SetNormal-clause-begins g c = λ header base p h.
     let P = g.R.ThresholdRules.pressure in
     let N = g.R.ThresholdRules.normal in
     let facts = facts_of header base in
-    rating-begins (Normal c.in-SetNormal.node) header base p P N h c.args.call (page.SetNormal c.in-SetNormal.node) c.in-SetNormal.is
-    (node_plan facts p (ByNormal N) c.in-SetNormal.node h) refl (λ online. normal-begins facts p P N h online c.in-SetNormal.node)
-    c.args.owner c.begin_rating-in-SetNormal.result c.begin_rating-in-SetNormal.ensures.known c.begin_rating-in-SetNormal.ensures.begins
+    rating-begins (Normal c.in-SetNormal.node) header base p P N h c.args.call (page.SetNormal c.in-SetNormal.node)
+    c.in-SetNormal.is
+    (node_plan facts p (ByNormal N) c.in-SetNormal.node h) refl
+    (λ online. normal-begins facts p P N h online c.in-SetNormal.node)
+    c.args.owner c.begin_rating-in-SetNormal.result c.begin_rating-in-SetNormal.ensures.known
+    c.begin_rating-in-SetNormal.ensures.begins
 
 pub returns-in-SetNormal-clause-known : goal.returns-in-SetNormal-clause-known
-returns-in-SetNormal-clause-known g c = c.begin_rating-in-SetNormal.ensures.known ∙ known-SetNormal c.args.owner c.in-SetNormal.node
+returns-in-SetNormal-clause-known g c = c.begin_rating-in-SetNormal.ensures.known ∙ known-SetNormal c.args.owner
+    c.in-SetNormal.node
     ∙ ap (has_cursor c.args.owner) (sym c.in-SetNormal.is)
   where
     known-SetNormal : (owner : Option CpuId) (n : PlaceId) → owns_none owner ≡ has_cursor owner (page.SetNormal n)
@@ -75,7 +82,8 @@ returns-in-SetNormal-clause-known g c = c.begin_rating-in-SetNormal.ensures.know
 
 pub returns-in-SetNormal-clause-within : goal.returns-in-SetNormal-clause-within
 returns-in-SetNormal-clause-within g c = λ shape within. rating-within (Normal c.in-SetNormal.node) shape
-    (subst (IsCallWithin shape) c.in-SetNormal.is within) c.begin_rating-in-SetNormal.result c.begin_rating-in-SetNormal.ensures.begins
+    (subst (IsCallWithin shape) c.in-SetNormal.is within) c.begin_rating-in-SetNormal.result
+    c.begin_rating-in-SetNormal.ensures.begins
 
 pub returns-in-Bury-clause-begins : goal.returns-in-Bury-clause-begins
 returns-in-Bury-clause-begins g c = λ header base p h.

@@ -23,14 +23,16 @@ returns-in-Some-clause-goes g c = λ header base p h same.
     (Change c.in-Change.change c.in-Some.later)
     (answering-goes (λ made. answer.Done) (change_at header.layout c.in-Change.change c.in-Change.at)
     (change_at header.layout c.in-Change.change c.in-Some.later) c.args.step
-    (subst (λ (s : Shape). GoesOn (change_at s c.in-Change.change c.in-Change.at) c.args.step (change_at s c.in-Change.change c.in-Some.later)) (sym same) c.in-Some.ensures.goes))
+    (subst (λ (s : Shape). GoesOn (change_at s c.in-Change.change c.in-Change.at) c.args.step
+    (change_at s c.in-Change.change c.in-Some.later)) (sym same) c.in-Some.ensures.goes))
 
 pub returns-in-None-clause-stops : goal.returns-in-None-clause-stops
 returns-in-None-clause-stops g c = λ header base p h same none.
     stops-as header base p g.R.ThresholdRules.pressure g.R.ThresholdRules.normal h
     c.args.self (Change c.in-Change.change c.in-Change.at) c.in-Change.is c.args.step
     (answering-stops (λ made. answer.Done) (change_at header.layout c.in-Change.change c.in-Change.at) c.args.step
-    (subst (λ (s : Shape). Stops (change_at s c.in-Change.change c.in-Change.at) c.args.step) (sym same) (c.in-None.ensures.stops none)))
+    (subst (λ (s : Shape). Stops (change_at s c.in-Change.change c.in-Change.at) c.args.step) (sym same)
+    (c.in-None.ensures.stops none)))
 
 pub returns-in-Some-next_value-clause-goes : goal.returns-in-Some-next_value-clause-goes
 returns-in-Some-next_value-clause-goes g c = λ header base p h same.
@@ -71,21 +73,25 @@ returns-in-Some-next-clause-goes g c = λ header base p h same.
     (Snapshot c.in-Snapshot.counter c.in-Some-next.later)
     (answering-goes (λ pages. answer.Snapshot pages) (snapshot_at header.layout c.in-Snapshot.counter c.in-Snapshot.at)
     (snapshot_at header.layout c.in-Snapshot.counter c.in-Some-next.later) c.args.step
-    (subst (λ (s : Shape). GoesOn (snapshot_at s c.in-Snapshot.counter c.in-Snapshot.at) c.args.step (snapshot_at s c.in-Snapshot.counter c.in-Some-next.later)) (sym same) c.in-Some-next.ensures.goes))
+    (subst (λ (s : Shape). GoesOn (snapshot_at s c.in-Snapshot.counter c.in-Snapshot.at) c.args.step
+    (snapshot_at s c.in-Snapshot.counter c.in-Some-next.later)) (sym same) c.in-Some-next.ensures.goes))
 
 pub returns-in-None-next-clause-stops : goal.returns-in-None-next-clause-stops
 returns-in-None-next-clause-stops g c = λ header base p h same none.
     stops-as header base p g.R.ThresholdRules.pressure g.R.ThresholdRules.normal h
     c.args.self (Snapshot c.in-Snapshot.counter c.in-Snapshot.at) c.in-Snapshot.is c.args.step
-    (answering-stops (λ pages. answer.Snapshot pages) (snapshot_at header.layout c.in-Snapshot.counter c.in-Snapshot.at) c.args.step
-    (subst (λ (s : Shape). Stops (snapshot_at s c.in-Snapshot.counter c.in-Snapshot.at) c.args.step) (sym same) (c.in-None-next.ensures.stops none)))
+    (answering-stops (λ pages. answer.Snapshot pages) (snapshot_at header.layout c.in-Snapshot.counter
+    c.in-Snapshot.at) c.args.step
+    (subst (λ (s : Shape). Stops (snapshot_at s c.in-Snapshot.counter c.in-Snapshot.at) c.args.step) (sym same)
+    (c.in-None-next.ensures.stops none)))
 
 pub returns-in-Some-next-2-clause-goes : goal.returns-in-Some-next-2-clause-goes
 returns-in-Some-next-2-clause-goes g c = λ header base p h same.
     goes-as header base p g.R.ThresholdRules.pressure g.R.ThresholdRules.normal h
     c.args.self (Test c.in-Test.zone c.in-Test.mark c.in-Test.most c.in-Test.at) c.in-Test.is c.args.step
     (Test c.in-Test.zone c.in-Test.mark c.in-Test.most c.in-Some-next-2.later)
-    (answering-goes (λ verdict. answer.Tested verdict) (test_at header c.in-Test.zone c.in-Test.mark c.in-Test.most c.in-Test.at)
+    (answering-goes (λ verdict. answer.Tested verdict) (test_at header c.in-Test.zone c.in-Test.mark
+    c.in-Test.most c.in-Test.at)
     (test_at header c.in-Test.zone c.in-Test.mark c.in-Test.most c.in-Some-next-2.later) c.args.step
     (c.in-Some-next-2.ensures.goes header c.in-Test.mark c.in-Test.most same))
 
@@ -93,7 +99,8 @@ pub returns-in-None-next-2-clause-stops : goal.returns-in-None-next-2-clause-sto
 returns-in-None-next-2-clause-stops g c = λ header base p h same none.
     stops-as header base p g.R.ThresholdRules.pressure g.R.ThresholdRules.normal h
     c.args.self (Test c.in-Test.zone c.in-Test.mark c.in-Test.most c.in-Test.at) c.in-Test.is c.args.step
-    (answering-stops (λ verdict. answer.Tested verdict) (test_at header c.in-Test.zone c.in-Test.mark c.in-Test.most c.in-Test.at) c.args.step
+    (answering-stops (λ verdict. answer.Tested verdict) (test_at header c.in-Test.zone c.in-Test.mark c.in-Test.most
+    c.in-Test.at) c.args.step
     (c.in-None-next-2.ensures.stops header c.in-Test.mark c.in-Test.most same none))
 
 pub returns-in-Some-next-3-clause-goes : goal.returns-in-Some-next-3-clause-goes

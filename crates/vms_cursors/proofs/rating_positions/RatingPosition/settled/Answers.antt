@@ -1,5 +1,6 @@
 -- Each position settles as its own function says.
-use Rattle.vms_cursors.specs.declared.rating_positions.RatingPosition.TheVariants.{Nodes, Numbers, States, Thresholds, Zones}
+use Rattle.vms_cursors.specs.declared.rating_positions.RatingPosition.TheVariants.{Nodes, Numbers, States, Thresholds}
+use Rattle.vms_cursors.specs.declared.rating_positions.RatingPosition.TheVariants.{Zones}
 use Rattle.vms_cursors.proofs.RatingAlong.{rating-as, rating-both}
 use Rattle.vms_cursors.proofs.rating_positions.RatingPosition.settled.Goals as goal
 
