@@ -1,9 +1,8 @@
 -- What the calls of a handle make, and when they are refused.
 use Rattle.std.specs.Prelude.{◌≡◌, ℕ, ◌+◌, ◌<◌, ◌≤◌, ℤ, List, slice_index_or, slice_set, unsigned_abs}
-use Rattle.vms_base.specs.Places.{IsNode}
-use Rattle.vms_calls.specs.Common.{most_sets}
+use Rattle.vms_world.specs.Common.{IsNode, most_sets, CounterId, IsCounter, IsZone, Mode, PlaceId, Shape, Step}
+use Rattle.vms_world.specs.Common.{most_volume, pages}
 use Rattle.vms_core.specs.Pages.{state_after}
-use Rattle.vms_world.specs.Common.{CounterId, IsCounter, IsZone, Mode, PlaceId, Shape, Step, most_volume, pages}
 use Rattle.vms_words.specs.Common.{largest_sets}
 use Rattle.vms_count.specs.Common.{HasChanged}
 use Rattle.vms_seats.specs.Common.{Made}

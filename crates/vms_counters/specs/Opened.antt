@@ -1,8 +1,8 @@
 -- What contracts see of open counters, and what these keep between two calls.
 use Rattle.std.specs.Prelude.{◌≡◌, ℕ, Bool, true, false, List, [], length, replicate, slice_index_or, slice_set, Option}
 use Rattle.std.specs.Prelude.{Some, None, All, IsSome}
-use Rattle.vms_world.specs.Common.{CpuId, Facts, Header, IsCpu, IsHeader, Shape, State, Step, ZoneSize, counter_count, facts_of}
-use Rattle.vms_world.specs.Common.{pages, settled, AreAnswers, started}
+use Rattle.vms_world.specs.Common.{CpuId, Facts, Header, IsCpu, IsHeader, Shape, State, Step, ZoneSize, counter_count}
+use Rattle.vms_world.specs.Common.{facts_of, pages, settled, AreAnswers, started}
 use Rattle.vms_core.specs.Cells.{HasShape}
 use Rattle.vms_core.specs.Pages.{History, state_after}
 use Rattle.vms_core.specs.declared.steps.Step.TheVariants.{Join, Split}

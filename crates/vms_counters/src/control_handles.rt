@@ -1,9 +1,8 @@
 ghost use Rattle.std.specs.Prelude.{◌≡◌, ◌≢◌, true, false, IfOk, MatchResult};
-ghost use Rattle.vms_base.specs.Places.{IsNode};
-ghost use Rattle.vms_calls.specs.Common.{ByNormal, ByPressure, IsBalanceTest, IsOrderTest, IsTurn, Refreshes};
-ghost use Rattle.vms_calls.specs.Common.{SetsNormal, SetsPressure};
-ghost use Rattle.vms_world.specs.Common.{IsCounter, IsCpu, IsFold, IsItem, IsPlaceValue};
-ghost use Rattle.vms_world.specs.Common.{IsSnapshot, IsSystemValue, IsWatermarkTest, free_pages, limit_of};
+ghost use Rattle.vms_world.specs.Common.{IsNode, ByNormal, ByPressure, IsTurn, Refreshes, SetsNormal, SetsPressure};
+ghost use Rattle.vms_world.specs.Common.{IsCounter, IsCpu, IsFold, IsItem, IsPlaceValue, IsSnapshot, IsSystemValue};
+ghost use Rattle.vms_world.specs.Common.{IsWatermarkTest, free_pages, limit_of};
+ghost use Rattle.vms_calls.specs.Turns.{IsBalanceTest, IsOrderTest};
 ghost use Rattle.vms_control.specs.SettledMarks.{SettlesAll, SettlesNode};
 ghost use Rattle.vms_count.specs.Common.{owns_cpu};
 ghost use Rattle.vms_counters.specs.Calls.{IsNodeTest, IsOrderedTest, IsZoneTest, Makes, Refuses, RefusesNodeTest};

@@ -1,11 +1,12 @@
 ghost use Rattle.std.specs.Prelude.{◌≡◌, ◌≢◌, true, false, Some, pos, negsuc, IfOk, MatchResult};
 ghost use Rattle.vms_base.specs.declared.kinds.Mode.TheVariants.{Dec, Inc, Mod};
-ghost use Rattle.vms_calls.specs.Common.{IsBalanceTest, IsOrderTest};
-ghost use Rattle.vms_world.specs.Common.{IsCounter, IsCpu, IsFold, IsItem, IsPlaceValue};
-ghost use Rattle.vms_world.specs.Common.{IsSnapshot, IsSystemValue, IsWatermarkTest, free_pages, limit_of};
+ghost use Rattle.vms_calls.specs.Turns.{IsBalanceTest, IsOrderTest};
+ghost use Rattle.vms_world.specs.Common.{IsCounter, IsCpu, IsFold, IsItem, IsPlaceValue, IsSnapshot, IsSystemValue};
+ghost use Rattle.vms_world.specs.Common.{IsWatermarkTest, free_pages, limit_of};
 ghost use Rattle.vms_count.specs.Common.{GoesWith, owns_cpu};
 ghost use Rattle.vms_counters.specs.Calls.{Changes, IsNodeTest, IsOrderedTest, IsZoneTest, Makes, Refuses};
-ghost use Rattle.vms_counters.specs.Calls.{RefusesChange, RefusesNodeTest, RefusesOrderTest, RefusesZoneTest, layout_of};
+ghost use Rattle.vms_counters.specs.Calls.{RefusesChange, RefusesNodeTest, RefusesOrderTest, RefusesZoneTest};
+ghost use Rattle.vms_counters.specs.Calls.{layout_of};
 ghost use Rattle.vms_kswapd.specs.Common.{CountsBlocks, NamesPassed};
 ghost use Rattle.vms_look.specs.Common.{HasSummed, SaysTruly, SumsTruly, TellsTruly};
 

@@ -1,8 +1,7 @@
 ghost use Rattle.std.specs.Prelude.{◌≡◌, ◌≢◌, true, false, IfOk, MatchResult};
-ghost use Rattle.vms_base.specs.Places.{IsNode};
-ghost use Rattle.vms_calls.specs.Common.{IsBalanceTest, IsOrderTest};
-ghost use Rattle.vms_world.specs.Common.{IsCounter, IsCpu, IsFold, IsHeader, IsItem, IsPlaceValue};
-ghost use Rattle.vms_world.specs.Common.{IsSnapshot, IsSystemValue, IsWatermarkTest, free_pages, limit_of};
+ghost use Rattle.vms_world.specs.Common.{IsNode, IsCounter, IsCpu, IsFold, IsHeader, IsItem, IsPlaceValue, IsSnapshot};
+ghost use Rattle.vms_world.specs.Common.{IsSystemValue, IsWatermarkTest, free_pages, limit_of};
+ghost use Rattle.vms_calls.specs.Turns.{IsBalanceTest, IsOrderTest};
 ghost use Rattle.vms_count.specs.Common.{owns_cpu};
 ghost use Rattle.vms_counters.specs.Calls.{IsNodeTest, IsOrderedTest, IsZoneTest, Makes, Refuses, RefusesNodeTest};
 ghost use Rattle.vms_counters.specs.Calls.{RefusesOrderTest, RefusesZoneTest};

@@ -1,6 +1,5 @@
 ghost use Rattle.std.specs.Prelude.{◌≡◌, IfOk, MatchResult, None, []};
-ghost use Rattle.vms_base.specs.Places.{IsNode};
-ghost use Rattle.vms_calls.specs.Common.{ByNormal, ByPressure, IsTurn, Refreshes, SetsNormal, SetsPressure};
+ghost use Rattle.vms_world.specs.Common.{IsNode, ByNormal, ByPressure, IsTurn, Refreshes, SetsNormal, SetsPressure};
 ghost use Rattle.vms_control.specs.SettledMarks.{SettlesAll, SettlesNode};
 ghost use Rattle.vms_counters.specs.Calls.{IsNodeTest, Makes, RefusesRating, RefusesRefresh, RefusesTurn};
 ghost use Rattle.vms_counters.specs.Handles.{IsControlHandle, handle_of};

@@ -1,14 +1,13 @@
 -- How a fold goes on from each position.
 use Rattle.std.proofs.Common.{◌≡◌, ◌≢◌, ℕ, suc, zero, ◌+◌, ◌-◌, ◌*◌, ◌/◌, ◌<◌, ◌≤◌, ◌+ℤ◌, ℤ, pos, negsuc, Bool, true}
-use Rattle.std.proofs.Common.{false}
-use Rattle.std.proofs.Common.{List, [], ◌∷◌, ◌++◌, length, drop, add-one, refl, sym, ap, subst, ◌∙◌, arith, drop-cons}
+use Rattle.std.proofs.Common.{false, List, [], ◌∷◌, ◌++◌, length, drop, add-one, refl, sym, ap, subst, ◌∙◌, arith}
+use Rattle.std.proofs.Common.{drop-cons}
 use Rattle.std.proofs.lemmas.Int.{ints}
 use Rattle.std.proofs.lemmas.List.{drop_all}
 use Rattle.std.proofs.lemmas.Nat.{div-mul-add}
 use Rattle.std.proofs.Math.Nat.{mul-suc, mul_assoc}
 use Rattle.std.specs.Prelude.{Option, Some, None, slice_index_or}
-use Rattle.vms_calls.specs.Common.{AddG, AddS, CounterId, Diffs, GroupId, IsLayout, ItemId, LoadT, SetA}
-use Rattle.vms_calls.specs.Common.{Shape, Step}
+use Rattle.vms_calls.specs.Common.{AddG, AddS, CounterId, Diffs, GroupId, IsLayout, ItemId, LoadT, SetA, Shape, Step}
 use Rattle.vms_calls.specs.Common.{Take, acknowledges, counter_at, entries_of, first_of_group, group_of, in_turn}
 use Rattle.vms_calls.specs.Common.{item_count, place_count, taken_of_item, to_place, to_system}
 use Rattle.vms_plans.specs.declared.due_steps.DueStep.TheVariants.{LoadsThreshold, Makes, Takes}
@@ -24,8 +23,7 @@ use Rattle.vms_cursors.specs.declared.fold_positions.FoldPosition.TheVariants.{P
 use Rattle.vms_cursors.proofs.FoldPlans.{groups-same, place_end-same}
 use Rattle.vms_cursors.proofs.Goes.{waits-due, waits-goes, waits-stops}
 use Rattle.vms_cursors.proofs.LayoutGroups.{eight-each}
-use Rattle.vms_cursors.proofs.PlanEquations.{and_then-assoc, and_then-makes_all, due-along, goes-along}
-use Rattle.vms_cursors.proofs.PlanEquations.{stops-along}
+use Rattle.vms_cursors.proofs.PlanEquations.{and_then-assoc, and_then-makes_all, due-along, goes-along, stops-along}
 use Rattle.vms_cursors.proofs.TestGoes.{some_positions}
 use Rattle.vms_cursors.proofs.StepReadings.{number-other, number-read, taken-other, taken-read}
 

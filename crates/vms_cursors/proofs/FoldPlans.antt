@@ -1,13 +1,12 @@
 -- The plan of a fold is the same whether what was taken stands in lists or in totals.
-use Rattle.std.proofs.Common.{◌≡◌, ℕ, suc, zero, ◌+◌, ◌-◌, ◌/◌, ◌+ℤ◌, pos, Bool, true, false, List, [], ◌∷◌, ◌++◌}
-use Rattle.std.proofs.Common.{refl, sym, ap, ◌∙◌, append_assoc, append-nil, arith}
+use Rattle.std.proofs.Common.{◌≡◌, ℕ, suc, zero, ◌+◌, ◌-◌, ◌/◌, ◌+ℤ◌, pos, Bool, true, false, List, [], ◌∷◌, ◌++◌, refl}
+use Rattle.std.proofs.Common.{sym, ap, ◌∙◌, append_assoc, append-nil, arith}
 use Rattle.std.proofs.lemmas.Int.{ints}
 use Rattle.std.proofs.Math.Path.{fun_ext}
 use Rattle.std.specs.Prelude.{Option, Some, None}
 use Rattle.vms_calls.specs.Common.{CpuId, Diffs, LoadT, SetA, Shape, Step, Take, acknowledges, counter_at, entries_of}
 use Rattle.vms_calls.specs.Common.{first_of_group, group_of, in_turn, item_count, place_count, system_steps}
-use Rattle.vms_calls.specs.Common.{taken_of_item, to_place}
-use Rattle.vms_calls.specs.Common.{to_system}
+use Rattle.vms_calls.specs.Common.{taken_of_item, to_place, to_system}
 use Rattle.vms_plans.specs.declared.due_steps.DueStep.TheVariants.{LoadsThreshold, Takes}
 use Rattle.vms_plans.specs.Common.{Plan, acknowledged_plan, and_then, ends, fold_plan, groups_plan, makes, makes_all}
 use Rattle.vms_plans.specs.Common.{place_groups, place_plan, places_plan, taken_plan, waits}

@@ -20,8 +20,7 @@ use Rattle.vms_cursors.specs.declared.cursors.Cursor.TheVariants.{Bury}
 use Rattle.vms_cursors.specs.declared.rating_calls.RatingCall.{RatingCall}
 use Rattle.vms_cursors.specs.declared.rating_calls.RatingCall.TheVariants as call
 use Rattle.vms_cursors.proofs.OpenPositions.{IsGood, burial-open, change-open, fold-open, open-and_then, rating-open}
-use Rattle.vms_cursors.proofs.OpenPositions.{snapshot-open}
-use Rattle.vms_cursors.proofs.OpenPositions.{test-open, value-open, system-open}
+use Rattle.vms_cursors.proofs.OpenPositions.{snapshot-open, test-open, value-open, system-open}
 
 -- nothing is needed of a question, or that some answer is allowed
 abbrev Nothing : (ℕ → ℕ → Type 0) → Type 0

@@ -1,22 +1,20 @@
 -- The plan that is left at each position comes to no refusal, and to no question that has no answer.
-use Rattle.std.proofs.Common.{ℕ, suc, zero, ◌+◌, ◌-◌, ◌*◌, ◌/◌, ℤ, ◌+ℤ◌, Bool, true, false, List, [], ◌∷◌}
-use Rattle.std.proofs.Common.{◌++◌, length, take, drop, subst, sym}
+use Rattle.std.proofs.Common.{ℕ, suc, zero, ◌+◌, ◌-◌, ◌*◌, ◌/◌, ℤ, ◌+ℤ◌, Bool, true, false, List, [], ◌∷◌, ◌++◌, length}
+use Rattle.std.proofs.Common.{take, drop, subst, sym}
 use Rattle.std.specs.Prelude.{None, Option, Some}
-use Rattle.vms_calls.specs.Common.{CounterId, CpuId, CpuState, Diffs, Facts, Header, History, ItemId, LoadD}
-use Rattle.vms_calls.specs.Common.{LoadT, MarkRead, Miss, PlaceId, Put, SetA, SetM, SetO, Shape, Step, Take}
-use Rattle.vms_calls.specs.Common.{WaterMark, ZoneSize, acknowledges, after, carried_by, counter_at, entry}
-use Rattle.vms_calls.specs.Common.{first_of_group, free_pages, group_of, in_turn, is_doubtful, item_count, online_from}
-use Rattle.vms_calls.specs.Common.{place_count, rating_steps, size_at, to_place}
+use Rattle.vms_calls.specs.Common.{CounterId, CpuId, CpuState, Diffs, Facts, Header, History, ItemId, LoadD, LoadT}
+use Rattle.vms_calls.specs.Common.{MarkRead, Miss, PlaceId, Put, SetA, SetM, SetO, Shape, Step, Take, WaterMark}
+use Rattle.vms_calls.specs.Common.{ZoneSize, acknowledges, after, carried_by, counter_at, entry, first_of_group}
+use Rattle.vms_calls.specs.Common.{free_pages, group_of, in_turn, is_doubtful, item_count, online_from, place_count}
+use Rattle.vms_calls.specs.Common.{rating_steps, size_at, to_place}
 use Rattle.vms_calls.specs.LookReadings.{differential_told, mark_told, online_told, value_told}
 use Rattle.vms_plans.specs.declared.due_steps.DueStep.TheVariants.{Exchanges, ExchangesZeros, LoadsGroup}
-use Rattle.vms_plans.specs.declared.due_steps.DueStep.TheVariants.{LoadsThreshold}
-use Rattle.vms_plans.specs.declared.due_steps.DueStep.TheVariants.{Takes}
+use Rattle.vms_plans.specs.declared.due_steps.DueStep.TheVariants.{LoadsThreshold, Takes}
 use Rattle.vms_plans.specs.Common.{Fits, Plan, acknowledged_plan, and_then, asks, carrying, either, ends}
 use Rattle.vms_plans.specs.Common.{exchanged_plan, found_plan, frees_plan, groups_plan, loaded_plan, looks_plan, makes}
 use Rattle.vms_plans.specs.Common.{makes_all, mark_plan, node_steps, place_groups, place_plan, places_plan, rates_plan}
 use Rattle.vms_plans.specs.Common.{recorded, refuses, state_told, states_plan, taken_plan, tested, visit_plan}
-use Rattle.vms_plans.specs.Common.{visits_plan}
-use Rattle.vms_plans.specs.Common.{refresh_plan, waits, won_plan}
+use Rattle.vms_plans.specs.Common.{visits_plan, refresh_plan, waits, won_plan}
 use Rattle.vms_cursors.specs.Burials.{after_burial_fold, burial_at, fold_of}
 use Rattle.vms_cursors.specs.Changes.{change_at}
 use Rattle.vms_cursors.specs.Folds.{fold_at, groups_from, items_from, items_left, place_end, places_from}
@@ -24,8 +22,7 @@ use Rattle.vms_cursors.specs.Loads.{system_at, value_at}
 use Rattle.vms_cursors.specs.OnlineCpus.{flagged}
 use Rattle.vms_cursors.specs.RatingCalls.{after_zones, choice_in, spares, visited_from}
 use Rattle.vms_cursors.specs.Ratings.{nodes_left, online_in, online_plan, rated_plan, rating_at, thresholds_left}
-use Rattle.vms_cursors.specs.Ratings.{zone_end}
-use Rattle.vms_cursors.specs.Ratings.{zones_plan}
+use Rattle.vms_cursors.specs.Ratings.{zone_end, zones_plan}
 use Rattle.vms_cursors.specs.Snapshots.{snapshot_at}
 use Rattle.vms_cursors.specs.Tests.{test_at}
 use Rattle.vms_cursors.specs.declared.burial_positions.BurialPosition.{BurialPosition}

@@ -4,8 +4,7 @@ use Rattle.std.proofs.Common.{refl, sym, ap, ◌∙◌, arith}
 use Rattle.std.proofs.lemmas.List.Elements.{filter-append}
 use Rattle.std.specs.Prelude.{filter}
 use Rattle.vms_calls.specs.Common.{ByNormal, ByPressure, CpuState, Facts, History, PlaceId, Shape, ZoneSize}
-use Rattle.vms_calls.specs.Common.{numbers_below}
-use Rattle.vms_calls.specs.Common.{online_from}
+use Rattle.vms_calls.specs.Common.{numbers_below, online_from}
 use Rattle.vms_plans.specs.Common.{Plan, and_then, node_plan, recorded, refresh_plan, states_plan, visits_plan}
 use Rattle.vms_cursors.specs.RatingCalls.{after_zones, visited_from, visits}
 use Rattle.vms_cursors.specs.Ratings.{rated_plan, rating_at}

@@ -9,13 +9,12 @@ use Rattle.vms_calls.specs.Common.{size_at, threshold_steps}
 use Rattle.vms_calls.specs.LookReadings.{mark_told}
 use Rattle.vms_plans.specs.declared.due_steps.DueStep.TheVariants.{LoadsAcknowledged, LoadsMark, LoadsState, Makes}
 use Rattle.vms_plans.specs.Common.{Plan, Runs, and_then, either, ends, makes_all, mark_plan, rates_plan, recorded}
-use Rattle.vms_plans.specs.Common.{state_told}
-use Rattle.vms_plans.specs.Common.{states_plan, waits}
+use Rattle.vms_plans.specs.Common.{state_told, states_plan, waits}
 use Rattle.vms_cursors.specs.Cursors.{GoesOn, IsDue, IsSame, Stops}
 use Rattle.vms_cursors.specs.OnlineCpus.{flagged, is_flagged}
 use Rattle.vms_cursors.specs.RatingCalls.{choice_in, spares}
-use Rattle.vms_cursors.specs.Ratings.{online_in, online_plan, rated_plan, rating_at, sets_plan}
-use Rattle.vms_cursors.specs.Ratings.{states_from, thresholds_left, zone_end}
+use Rattle.vms_cursors.specs.Ratings.{online_in, online_plan, rated_plan, rating_at, sets_plan, states_from}
+use Rattle.vms_cursors.specs.Ratings.{thresholds_left, zone_end}
 use Rattle.vms_cursors.specs.StepReadings.{mark_in, number_told_in, state_in}
 use Rattle.vms_cursors.specs.declared.online_cpus.OnlineCpus.{OnlineCpus}
 use Rattle.vms_cursors.specs.declared.rated.Rated.{Rated}

@@ -1,18 +1,17 @@
 -- How the plan of a call that gives thresholds is the same at two positions.
 use Rattle.std.proofs.Common.{◌≡◌, ℕ, suc, zero, ◌+◌, ◌-◌, ◌<◌, ◌≤◌, Bool, true, false, List, [], ◌∷◌, ◌++◌, length}
-use Rattle.std.proofs.Common.{take, drop, if◌then◌else◌, refl, sym, ap, ◌∙◌, append_assoc, append-nil, add-one}
-use Rattle.std.proofs.Common.{arith, drop-cons, ⊎_elim}
+use Rattle.std.proofs.Common.{take, drop, if◌then◌else◌, refl, sym, ap, ◌∙◌, append_assoc, append-nil, add-one, arith}
+use Rattle.std.proofs.Common.{drop-cons, ⊎_elim}
 use Rattle.std.proofs.Math.ListN.{set}
 use Rattle.std.proofs.Math.Path.{fun_ext}
 use Rattle.std.proofs.lemmas.Bool.{cases_lt}
 use Rattle.std.proofs.lemmas.List.{drop_all}
 use Rattle.std.specs.Prelude.{slice_index_or}
 use Rattle.vms_calls.specs.Common.{CpuId, CpuState, Facts, History, MarkRead, SetT, Shape, Step, ZoneSize, after}
-use Rattle.vms_calls.specs.Common.{in_turn}
-use Rattle.vms_calls.specs.Common.{largest_on, online_from, threshold_steps}
+use Rattle.vms_calls.specs.Common.{in_turn, largest_on, online_from, threshold_steps}
 use Rattle.vms_plans.specs.declared.due_steps.DueStep.TheVariants.{LoadsState}
-use Rattle.vms_plans.specs.Common.{Plan, and_then, ends, makes_all, mark_plan, recorded, state_told}
-use Rattle.vms_plans.specs.Common.{states_plan, visit_plan, visits_plan, waits}
+use Rattle.vms_plans.specs.Common.{Plan, and_then, ends, makes_all, mark_plan, recorded, state_told, states_plan}
+use Rattle.vms_plans.specs.Common.{visit_plan, visits_plan, waits}
 use Rattle.vms_cursors.specs.OnlineCpus.{flagged, is_flagged}
 use Rattle.vms_cursors.specs.RatingCalls.{after_zones, visited_from, visits}
 use Rattle.vms_cursors.specs.Ratings.{IsOfNode, nodes_left, numbers_from, online_in, online_plan, rated_plan, rating_at}
@@ -20,8 +19,7 @@ use Rattle.vms_cursors.specs.Ratings.{states_from, thresholds_left, zone_end, zo
 use Rattle.vms_cursors.specs.declared.rated.Rated.{Rated}
 use Rattle.vms_cursors.specs.declared.rating_calls.RatingCall.{RatingCall}
 use Rattle.vms_cursors.specs.declared.rating_calls.RatingCall.TheVariants.{Pressure, Normal, Refresh}
-use Rattle.vms_cursors.specs.declared.rating_positions.RatingPosition.TheVariants.{Nodes}
-use Rattle.vms_cursors.specs.declared.rating_positions.RatingPosition.TheVariants.{Zones}
+use Rattle.vms_cursors.specs.declared.rating_positions.RatingPosition.TheVariants.{Nodes, Zones}
 use Rattle.vms_cursors.proofs.FlaggedCpus.{all_left, flagged-some, more_left, none_left}
 use Rattle.vms_cursors.proofs.PlanEquations.{and_then-assoc}
 

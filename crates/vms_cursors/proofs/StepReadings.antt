@@ -8,8 +8,7 @@ use Rattle.vms_calls.specs.Common.{AreBytes, AddG, AddS, CounterId, CpuId, CpuSt
 use Rattle.vms_calls.specs.Common.{LoadG, LoadO, LoadM, LoadS, LoadT, MarkRead, Miss, PlaceId, SetA, SetM, SetT, Step}
 use Rattle.vms_calls.specs.Common.{Take, LoadA}
 use Rattle.vms_plans.specs.declared.due_steps.DueStep.TheVariants.{LoadsAcknowledged, LoadsGroup, LoadsMark, LoadsState}
-use Rattle.vms_plans.specs.declared.due_steps.DueStep.TheVariants.{LoadsSystem}
-use Rattle.vms_plans.specs.declared.due_steps.DueStep.TheVariants.{LoadsThreshold, LoadsValue, Takes}
+use Rattle.vms_plans.specs.declared.due_steps.DueStep.TheVariants.{LoadsSystem, LoadsThreshold, LoadsValue, Takes}
 use Rattle.vms_plans.specs.Common.{Fits}
 use Rattle.vms_cursors.specs.StepReadings.{added_in, added_to_item_in, group_in, mark_in, missed_in, state_in}
 use Rattle.vms_cursors.specs.StepReadings.{acknowledged_in, number_in, number_told_in, set_mark_in, set_threshold_in}

@@ -1,6 +1,6 @@
 -- The plan of what is left of a fold at each position.
-use Rattle.std.specs.Prelude.{ℕ, zero, suc, ◌+◌, ◌-◌, ◌*◌, ◌/◌, ◌<◌, ◌≤◌, List, [], ◌++◌, drop, Option, Some, None}
-use Rattle.std.specs.Prelude.{◌≡◌, ◌+ℤ◌}
+use Rattle.std.specs.Prelude.{ℕ, zero, suc, ◌+◌, ◌-◌, ◌*◌, ◌/◌, ◌<◌, ◌≤◌, List, [], ◌++◌, drop, Option, Some, None, ◌≡◌}
+use Rattle.std.specs.Prelude.{◌+ℤ◌}
 use Rattle.vms_calls.specs.Common.{Diffs, SetA, Shape, Step, first_of_group, in_turn, item_count, place_count}
 use Rattle.vms_calls.specs.Common.{taken_of_item, to_place, to_system}
 use Rattle.vms_plans.specs.Common.{Plan, and_then, ends, groups_plan, makes, makes_all, places_plan}

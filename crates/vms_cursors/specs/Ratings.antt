@@ -1,9 +1,9 @@
 -- The plan of what is left of a call that gives thresholds at each position.
 use Rattle.std.specs.Prelude.{◌≡◌, ℕ, suc, ◌+◌, ◌-◌, ◌<◌, ◌≤◌, true, List, [], ◌∷◌, ◌++◌, length, take, drop}
-use Rattle.vms_calls.specs.Common.{CpuId, CpuState, Facts, History, MarkRead, SetM, Shape, Step, ZoneSize}
-use Rattle.vms_calls.specs.Common.{in_turn, largest_on, online_from, threshold_steps}
-use Rattle.vms_plans.specs.Common.{Plan, and_then, either, ends, makes_all, mark_plan, rates_plan}
-use Rattle.vms_plans.specs.Common.{recorded, states_plan, visits_plan}
+use Rattle.vms_calls.specs.Common.{CpuId, CpuState, Facts, History, MarkRead, SetM, Shape, Step, ZoneSize, in_turn}
+use Rattle.vms_calls.specs.Common.{largest_on, online_from, threshold_steps}
+use Rattle.vms_plans.specs.Common.{Plan, and_then, either, ends, makes_all, mark_plan, rates_plan, recorded}
+use Rattle.vms_plans.specs.Common.{states_plan, visits_plan}
 use Rattle.vms_cursors.specs.OnlineCpus.{flagged, is_flagged}
 use Rattle.vms_cursors.specs.RatingCalls.{after_zones, choice_in, spares, visited_from}
 use Rattle.vms_cursors.specs.declared.rating_calls.RatingCall.{RatingCall}

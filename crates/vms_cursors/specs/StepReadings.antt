@@ -1,8 +1,7 @@
 -- What a step tells where it is of one kind and acts on one place: none where it is another.
 use Rattle.std.specs.Prelude.{ℕ, nat_eq, ◌&&◌, ℤ, Option, Some, None, if◌then◌else◌}
 use Rattle.vms_calls.specs.Common.{AddG, AddS, CpuState, Diffs, LoadA, LoadD, LoadG, LoadM, LoadO, LoadS, LoadT}
-use Rattle.vms_calls.specs.Common.{MarkRead, SetA, SetM, SetT}
-use Rattle.vms_calls.specs.Common.{Miss, Step, Take}
+use Rattle.vms_calls.specs.Common.{MarkRead, SetA, SetM, SetT, Miss, Step, Take}
 
 -- a load of the own threshold of place g, and of the list of a CPU in group j
 abbrev pub threshold_in : ℕ → Step → Option ℕ

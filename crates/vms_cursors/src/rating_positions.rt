@@ -1,6 +1,5 @@
 ghost use Rattle.std.specs.Prelude.{◌≡◌, ℕ, ◌+◌, ◌-◌, ◌<◌, ◌≤◌, false, true, length, take, drop, slice_index_or};
-ghost use Rattle.std.specs.Prelude.{IfSome};
-ghost use Rattle.std.specs.Prelude.{IsNone};
+ghost use Rattle.std.specs.Prelude.{IfSome, IsNone};
 ghost use Rattle.vms_calls.specs.Common.{Facts, History, IsLayout, Shape, is_online as tells_online, largest_on};
 ghost use Rattle.vms_cursors.specs.Cursors.{IsSame};
 ghost use Rattle.vms_cursors.specs.OnlineCpus.{is_flagged};

@@ -1,6 +1,6 @@
 -- Which marks stand, by the facts that the handle's pass has.
 use Rattle.std.proofs.Common.{IfOk, subst, sym}
-use Rattle.vms_calls.specs.Common.{ByNormal, Facts, Step}
+use Rattle.vms_world.specs.Common.{ByNormal, Facts, Step}
 use Rattle.vms_control.specs.SettledMarks.{SettlesNode}
 use Rattle.vms_seats.specs.Common.{Pass}
 use Rattle.vms_counters.specs.declared.shared.SharedCounters.{SharedCounters}

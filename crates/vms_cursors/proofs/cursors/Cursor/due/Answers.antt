@@ -11,8 +11,8 @@ use Rattle.vms_cursors.specs.Loads.{system_at, value_at}
 use Rattle.vms_cursors.specs.Ratings.{rating_at}
 use Rattle.vms_cursors.specs.Snapshots.{snapshot_answer, snapshot_at}
 use Rattle.vms_cursors.specs.Tests.{test_answer, test_at}
-use Rattle.vms_cursors.specs.declared.cursors.Cursor.TheVariants.{Change, Value, System, Snapshot, Test, Fold}
-use Rattle.vms_cursors.specs.declared.cursors.Cursor.TheVariants.{Bury, Rates}
+use Rattle.vms_cursors.specs.declared.cursors.Cursor.TheVariants.{Change, Value, System, Snapshot, Test, Fold, Bury}
+use Rattle.vms_cursors.specs.declared.cursors.Cursor.TheVariants.{Rates}
 use Rattle.vms_cursors.proofs.CursorGoes.{buries-due, buries-ended, due-as, ended-as, rates-due, rates-ended, some-due}
 use Rattle.vms_cursors.proofs.Goes.{answering-ended}
 use Rattle.vms_cursors.proofs.cursors.Cursor.due.Goals as goal

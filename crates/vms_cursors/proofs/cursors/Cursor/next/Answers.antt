@@ -10,8 +10,8 @@ use Rattle.vms_cursors.specs.Loads.{system_at, value_at}
 use Rattle.vms_cursors.specs.Ratings.{rating_at}
 use Rattle.vms_cursors.specs.Snapshots.{snapshot_at}
 use Rattle.vms_cursors.specs.Tests.{test_at}
-use Rattle.vms_cursors.specs.declared.cursors.Cursor.TheVariants.{Change, Value, System, Snapshot, Test, Fold}
-use Rattle.vms_cursors.specs.declared.cursors.Cursor.TheVariants.{Bury, Rates}
+use Rattle.vms_cursors.specs.declared.cursors.Cursor.TheVariants.{Change, Value, System, Snapshot, Test, Fold, Bury}
+use Rattle.vms_cursors.specs.declared.cursors.Cursor.TheVariants.{Rates}
 use Rattle.vms_cursors.proofs.CursorGoes.{buries-goes, buries-stops, goes-as, rates-goes, rates-stops, stops-as}
 use Rattle.vms_cursors.proofs.Goes.{answering-goes, answering-stops}
 use Rattle.vms_cursors.proofs.cursors.Cursor.next.Goals as goal

@@ -1,7 +1,6 @@
 -- The totals with one entry more, and with all eight.
 use Rattle.std.proofs.Common.{◌≡◌, ◌<◌, ◌≤◌, ◌+◌, ◌*◌, ◌+ℤ◌, ℕ, pos, unsigned_abs, List, length, subst, sym, ap, ◌∙◌}
-use Rattle.std.proofs.Common.{arith}
-use Rattle.std.proofs.Common.{length-set, ⊎_elim}
+use Rattle.std.proofs.Common.{arith, length-set, ⊎_elim}
 use Rattle.std.specs.Prelude.{slice_index_or, slice_set}
 use Rattle.vms_calls.specs.Common.{first_of_group, item_count, item_of, sum_below}
 use Rattle.vms_cursors.specs.Totals.{total_at}
