@@ -3,13 +3,14 @@ ghost use Rattle.vms_group_phase.specs.LaneRuns.{HasRunJob, HaveRunJobs, MayRunJ
 
 use crate::jobs::{LaneDone, LaneJob, run_job};
 use std::alloc::Global;
-use std::thread;
 use std::thread::Threads;
 use vms_base::Memory;
 use vms_group::GroupTable;
+use vms_jobs::map_jobs;
 use vms_lane::Gate;
 
-/// Lets a thread for each job make its lines. Returns once all have, with the results in the order of the jobs.
+/// Makes the lines of jobs side by side: those of the first on this thread, and those of each other one on a thread of
+/// its own. Returns once all are made, with the results in the order of the jobs.
 pub(crate) fn run_jobs<R: Threads + Sync, G: Gate>(
     rt: &R,
     alloc: Global,
@@ -20,7 +21,7 @@ pub(crate) fn run_jobs<R: Threads + Sync, G: Gate>(
     requires { All (MayRunJob table.now) jobs.items }
     ensures { IfOk result (λ results. HaveRunJobs table.now jobs.entry.items results.items) }
 {
-    let results = thread::map_vec(
+    let results = map_jobs(
         rt,
         jobs,
         &|job: LaneJob<'_>| -> Result<LaneDone, Memory>

@@ -5,14 +5,15 @@ ghost use Rattle.vms_tables.specs.Common.{AreTables};
 
 use crate::jobs::{LaneDone, LaneJob, run_job};
 use std::sync::Wait;
-use std::thread;
 use std::thread::Threads;
 use vms_base::{Header, Memory};
 use vms_calc::{Rule, Rules};
+use vms_jobs::map_jobs;
 use vms_lane::{Gate, Host};
 use vms_tables::Tables;
 
-/// Lets a thread for each job make its lines. Returns once all have, with the results in the order of the jobs.
+/// Makes the lines of jobs side by side: those of the first on this thread, and those of each other one on a thread of
+/// its own. Returns once all are made, with the results in the order of the jobs.
 pub fn run_jobs<R: Threads + Wait + Sync, G: Gate, N: Rule + Sync, P: Rule + Sync>(
     host: &Host<'_, R, G>,
     tables: &Tables,
@@ -26,7 +27,7 @@ pub fn run_jobs<R: Threads + Wait + Sync, G: Gate, N: Rule + Sync, P: Rule + Syn
     ensures { IfOk result (λ results. HaveRunJobs header.now (P.answers rules.now.pressure)
         (N.answers rules.now.normal) tables.now jobs.entry.items results.items) }
 {
-    let results = thread::map_vec(
+    let results = map_jobs(
         host.rt,
         jobs,
         &|job: LaneJob<'_>| -> Result<LaneDone, Memory>
