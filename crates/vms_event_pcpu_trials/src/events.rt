@@ -10,8 +10,8 @@ use std::thread::{Threads, join};
 use vms_base::{CpuId, CpuState, EventId, Layout, Overflow, Row, ZoneKind, ZoneName};
 use vms_event::{EventControl, EventMain, EventPass, EventTable};
 use vms_event_core::{EventFacts, EventState};
-use vms_event_judge::JudgedEvents;
-use vms_judge::Judged;
+use vms_event_registers::EventRegisters;
+use vms_registers::TableRegisters;
 
 const CPU_0: CpuId = CpuId { number: 0 };
 
@@ -41,7 +41,7 @@ fn opened(
             words: Row::from_slice(alloc, words)?,
         },
     };
-    if !JudgedEvents::can_begin(&facts) {
+    if EventRegisters::open(alloc, &facts)?.is_none() {
         return Err(Fail::new("no history begins with these words"));
     }
     let made = EventTable::make(alloc, &facts.layout, &facts.base, facts.cpus.as_slice())?;

@@ -8,7 +8,7 @@ ghost use Rattle.vms_event_registers.specs.Keeps.{IsKept};
 ghost use Rattle.vms_registers.specs.Slots.{owner_of};
 
 use crate::EventRegisters;
-use crate::opening::state_of;
+use crate::bases::state_of;
 use crate::registers::word;
 use vms_base::{CpuId, CpuState, EventId};
 use vms_event_core::EventFacts;

@@ -1,11 +1,12 @@
 //! The registers of a history without events.
 
-ghost use Rattle.std.specs.Prelude.{◌≡◌, ◌<◌, ℕ, IfOk, [], length};
+ghost use Rattle.std.specs.Prelude.{ℕ, IfOk, []};
 ghost use Rattle.vms_history.specs.Common.{IsCpu};
-ghost use Rattle.vms_event_core.specs.Common.{IsBase, IsLowestOnline, cpu_at};
+ghost use Rattle.vms_event_core.specs.Common.{IsBase, IsLowestOnline};
 ghost use Rattle.vms_event_registers.specs.Keeps.{KeepsEvents};
 
 use crate::EventRegisters;
+use crate::bases::state_of;
 use crate::registers::EVENTS;
 use std::alloc::Global;
 use vms_base::{CpuId, CpuState, Memory, Row};
@@ -40,13 +41,4 @@ fn lowest_online(facts: &EventFacts) -> CpuId
         }
     }
     CpuId { number: 0 }
-}
-
-/// Whether a CPU of the layout is online, dead or absent.
-#[inline]
-pub(crate) fn state_of(facts: &EventFacts, cpu: CpuId) -> CpuState
-    requires { cpu.number < length facts.now.cpus }
-    ensures { result ≡ cpu_at facts.now cpu.number }
-{
-    facts.cpus.get(cpu.number as usize)
 }

@@ -4,13 +4,13 @@ ghost use Rattle.vms_event_registers.specs.Keeps.{KeepsEvents};
 ghost use Rattle.vms_event_registers.specs.PassesKept.{KeepsEvents-begins, KeepsEvents-ends};
 
 use crate::EventRegisters;
+use crate::bases::{is_base, may_own};
 use crate::opening::opened;
 use std::alloc::Global;
 use vms_base::{CpuId, Memory};
 use vms_event_core::{EventFacts, EventStep};
-use vms_event_judge::JudgedEvents;
 use vms_history::Table;
-use vms_judge::{Judged, Role, RoleTable};
+use vms_judge::{Role, RoleTable};
 use vms_registers::{TableRegisters, owner_at};
 
 impl Table for EventRegisters {
@@ -27,7 +27,11 @@ impl Table for EventRegisters {
 
 impl RoleTable for EventRegisters {
     fn role(step: &EventStep) -> Role {
-        JudgedEvents::role(step)
+        match *step {
+            EventStep::Split(pass, who) => Role::Begins(pass, who),
+            EventStep::Join(pass) => Role::Ends(pass),
+            _ => Role::Works,
+        }
     }
 }
 
@@ -37,7 +41,7 @@ impl TableRegisters for EventRegisters {
     ghost Keeps = { KeepsEvents };
 
     fn open(alloc: Global, facts: &EventFacts) -> Result<Option<EventRegisters>, Memory> {
-        if JudgedEvents::can_begin(facts) {
+        if is_base(facts) {
             Ok(Some(opened(alloc, facts)?))
         } else {
             Ok(None)
@@ -49,7 +53,7 @@ impl TableRegisters for EventRegisters {
     }
 
     fn may_own(facts: &EventFacts, who: Option<CpuId>) -> bool {
-        JudgedEvents::may_own(facts, who)
+        may_own(facts, who)
     }
 
     fn may_end(&self, facts: &EventFacts, slot: u32, pass: u64) -> bool {

@@ -5,10 +5,9 @@ use std::alloc::Global;
 use std::test::Fail;
 use vms_base::{CpuId, CpuState, EventId, Layout, Row, ZoneKind, ZoneName};
 use vms_event_core::{Event, EventFacts, EventState, EventStep};
-use vms_event_judge::JudgedEvents;
 use vms_event_registers::EventRegisters;
-use vms_judge::{Verdict, judge};
-use vms_registers::judge as judge_by_registers;
+use vms_judge::Verdict;
+use vms_registers::judge;
 
 /// Facts of one zone and as many CPUs as there are states.
 fn facts_of(
@@ -332,9 +331,8 @@ static ROWS: [(&str, &[Event], Verdict); 42] = [
 fn histories(rt: HostRuntime) -> Result<(), Fail> {
     let facts = facts_of(rt.alloc(), 4, &STATES, &WORDS)?;
     for (name, events, want) in ROWS.iter() {
-        assert_eq!(rt; judge::<JudgedEvents>(&facts, events), *want, "{name}");
-        let told = judge_by_registers::<EventRegisters>(rt.alloc(), &facts, events)?;
-        assert_eq!(rt; told, *want, "{name}, by registers");
+        let told = judge::<EventRegisters>(rt.alloc(), &facts, events)?;
+        assert_eq!(rt; told, *want, "{name}");
     }
     Ok(())
 }
@@ -376,9 +374,8 @@ static BASES: [(&str, &[CpuState], &[u64], &[Event], Verdict); 7] = [
 fn bases(rt: HostRuntime) -> Result<(), Fail> {
     for (name, states, words, events, want) in BASES.iter() {
         let facts = facts_of(rt.alloc(), 2, states, words)?;
-        assert_eq!(rt; judge::<JudgedEvents>(&facts, events), *want, "{name}");
-        let told = judge_by_registers::<EventRegisters>(rt.alloc(), &facts, events)?;
-        assert_eq!(rt; told, *want, "{name}, by registers");
+        let told = judge::<EventRegisters>(rt.alloc(), &facts, events)?;
+        assert_eq!(rt; told, *want, "{name}");
     }
     Ok(())
 }

@@ -1,7 +1,7 @@
 use Rattle.std.proofs.Common.{◌≡◌, ◌≤◌, ◌*◌, ◌^◌, pos}
 use Rattle.vms_history.specs.Common.{sum_below}
 use Rattle.vms_event_core.specs.Common.{word_at}
-use Rattle.vms_event_judge.proofs.bases.base_sum.Given as goal
+use Rattle.vms_event_registers.proofs.bases.base_sum.Given as goal
 
 abbrev pub invariant-loop-number : goal.invariant-loop-number
 invariant-loop-number l = record {

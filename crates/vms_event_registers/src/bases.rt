@@ -1,16 +1,17 @@
-//! Whether a history may begin with these facts.
+//! Whether a history may begin with these facts, and which CPUs passes may own.
 
-ghost use Rattle.std.specs.Prelude.{◌≡◌, ◌↔◌, ℕ, ◌*◌, ◌<◌, IsTrue, length, pos, ◌≤ℤ◌};
+ghost use Rattle.std.specs.Prelude.{◌≡◌, ◌↔◌, ℕ, IsTrue, length, pos, ◌≤ℤ◌};
 ghost use Rattle.vms_history.specs.Common.{HasOnline, IsLayout, IsCpu, Online, Absent};
 ghost use Rattle.vms_event_core.specs.Bases as bases;
-ghost use Rattle.vms_event_core.specs.Common.{IsEvent, HasShape, event_count, word_at, sum_of_words};
+ghost use Rattle.vms_event_core.specs.Common.{HasShape, IsEvent, MayOwn, sum_of_words, word_at};
 
-use crate::amounts::base_word;
+use crate::registers::word;
 use vms_base::{CpuId, CpuState, EventId};
 use vms_event_core::EventFacts;
 
 /// Whether a CPU is online, dead or absent. One that the layout doesn't have is absent.
-pub fn state_of(facts: &EventFacts, c: CpuId) -> CpuState
+#[inline]
+pub(crate) fn state_of(facts: &EventFacts, c: CpuId) -> CpuState
     ensures { result ≡ bases.cpu_at facts.now c.number }
 {
     let at = c.number as usize;
@@ -22,25 +23,13 @@ pub fn state_of(facts: &EventFacts, c: CpuId) -> CpuState
 }
 
 /// Whether a CPU is online.
-pub fn is_online(facts: &EventFacts, c: CpuId) -> bool
+fn is_online(facts: &EventFacts, c: CpuId) -> bool
     ensures { IsTrue result ↔ (bases.cpu_at facts.now c.number ≡ Online) }
 {
     match state_of(facts, c) {
         CpuState::Online => true,
         _ => false,
     }
-}
-
-/// Whether a CPU is the lowest-numbered one that is online.
-pub fn is_lowest_online(facts: &EventFacts, c: CpuId) -> bool
-    ensures { IsTrue result ↔ bases.IsLowestOnline facts.now c.number }
-{
-    for number in 0..c.number {
-        if is_online(facts, CpuId { number }) {
-            return false;
-        }
-    }
-    is_online(facts, c)
 }
 
 /// Whether the facts have a state for each CPU, and a word for each CPU and event.
@@ -72,7 +61,7 @@ fn has_no_count(facts: &EventFacts, c: CpuId) -> bool
     ensures { IsTrue result ↔ ((k : ℕ) → IsEvent k → word_at facts.now.base c.number k ≡ 0) }
 {
     for number in 0..8 {
-        if base_word(&facts.base, c, EventId { number }) != 0 {
+        if word(&facts.base, c, EventId { number }) != 0 {
             return false;
         }
     }
@@ -114,7 +103,7 @@ fn base_sum(facts: &EventFacts, k: EventId) -> u128
 {
     let mut sum: u128 = 0;
     for number in 0..facts.layout.cpus() {
-        sum += base_word(&facts.base, CpuId { number }, k);
+        sum += u128::from(word(&facts.base, CpuId { number }, k));
     }
     sum
 }
@@ -134,7 +123,7 @@ fn sums_fit(facts: &EventFacts) -> bool
 }
 
 /// Whether a history may begin with the facts.
-pub fn is_base(facts: &EventFacts) -> bool
+pub(crate) fn is_base(facts: &EventFacts) -> bool
     ensures { IsTrue result ↔ bases.IsBase facts.now }
 {
     if !has_shape(facts) {
@@ -147,4 +136,14 @@ pub fn is_base(facts: &EventFacts) -> bool
         return false;
     }
     sums_fit(facts)
+}
+
+/// Whether a pass may begin that owns this CPU, or for `None` a control pass.
+pub(crate) fn may_own(facts: &EventFacts, who: Option<CpuId>) -> bool
+    ensures { IsTrue result ↔ MayOwn facts.now who }
+{
+    match who {
+        Some(c) => c.number < facts.layout.cpus() && is_online(facts, c),
+        None => true,
+    }
 }
