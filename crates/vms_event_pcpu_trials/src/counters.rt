@@ -9,10 +9,10 @@ use std::sync::Wait;
 use std::test::Fail;
 use std::thread::{Threads, join};
 use vms_base::{CpuId, CpuState, Layout, Overflow, PcpuId, Row, ZoneKind, ZoneName};
-use vms_judge::Judged;
 use vms_pcpu::{PcpuMain, PcpuPass, PcpuTable};
 use vms_pcpu_core::{PcpuFacts, PcpuState};
-use vms_pcpu_judge::JudgedPercpu;
+use vms_pcpu_registers::PcpuRegisters;
+use vms_registers::TableRegisters;
 
 const CPU_0: CpuId = CpuId { number: 0 };
 
@@ -54,7 +54,7 @@ fn opened(alloc: Global) -> Result<(PcpuTable, PcpuMain), Fail>
         cpus: Row::from_slice(alloc, &[Online, Online])?,
         base: empty(alloc)?,
     };
-    if !JudgedPercpu::can_begin(&facts) {
+    if PcpuRegisters::open(alloc, &facts)?.is_none() {
         return Err(Fail::new("no history begins with this counter"));
     }
     let made = PcpuTable::make(alloc, &facts.layout, &facts.base, facts.cpus.as_slice())?;

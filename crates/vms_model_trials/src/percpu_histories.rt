@@ -4,9 +4,10 @@ use Verdict::{Complete, Illegal, NoBase, Open};
 use std::alloc::Global;
 use std::test::Fail;
 use vms_base::{CpuId, CpuState, Layout, PcpuId, Row, ZoneKind, ZoneName};
-use vms_judge::{Verdict, judge};
+use vms_judge::Verdict;
 use vms_pcpu_core::{Event, PcpuFacts, PcpuState, PcpuStep};
-use vms_pcpu_judge::JudgedPercpu;
+use vms_pcpu_registers::PcpuRegisters;
+use vms_registers::judge;
 
 const NORMAL: ZoneName = ZoneName {
     node: 0,
@@ -364,7 +365,8 @@ static ROWS: [(&str, &[Event], Verdict); 50] = [
 fn histories(rt: HostRuntime) -> Result<(), Fail> {
     let facts = facts_of(rt.alloc(), &CPUS, &BATCHES, &COUNTS, &LOCALS)?;
     for (name, events, want) in ROWS.iter() {
-        assert_eq!(rt; judge::<JudgedPercpu>(&facts, events), *want, "{name}");
+        let told = judge::<PcpuRegisters>(rt.alloc(), &facts, events)?;
+        assert_eq!(rt; told, *want, "{name}");
     }
     Ok(())
 }
@@ -458,7 +460,8 @@ static BASES: [(&str, &[CpuState], &[u32], &[i64], &[i64], Verdict); 11] = [
 fn bases(rt: HostRuntime) -> Result<(), Fail> {
     for (name, cpus, batches, counts, locals, want) in BASES.iter() {
         let facts = facts_of(rt.alloc(), cpus, batches, counts, locals)?;
-        assert_eq!(rt; judge::<JudgedPercpu>(&facts, &[]), *want, "{name}");
+        let told = judge::<PcpuRegisters>(rt.alloc(), &facts, &[])?;
+        assert_eq!(rt; told, *want, "{name}");
     }
     Ok(())
 }

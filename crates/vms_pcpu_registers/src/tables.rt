@@ -3,13 +3,13 @@ ghost use Rattle.vms_pcpu_registers.specs.Keeps.{KeepsPercpu};
 ghost use Rattle.vms_pcpu_registers.specs.PassesKept.{KeepsPercpu-begins, KeepsPercpu-ends};
 
 use crate::PcpuRegisters;
+use crate::bases::{is_base, may_own};
 use crate::opening::opened;
 use std::alloc::Global;
 use vms_base::{CpuId, Memory};
 use vms_history::Table;
-use vms_judge::{Judged, Role, RoleTable};
+use vms_judge::{Role, RoleTable};
 use vms_pcpu_core::{PcpuFacts, PcpuStep};
-use vms_pcpu_judge::JudgedPercpu;
 use vms_registers::TableRegisters;
 
 impl Table for PcpuRegisters {
@@ -26,7 +26,11 @@ impl Table for PcpuRegisters {
 
 impl RoleTable for PcpuRegisters {
     fn role(step: &PcpuStep) -> Role {
-        JudgedPercpu::role(step)
+        match *step {
+            PcpuStep::Split(pass, who) => Role::Begins(pass, who),
+            PcpuStep::Join(pass) => Role::Ends(pass),
+            _ => Role::Works,
+        }
     }
 }
 
@@ -36,7 +40,7 @@ impl TableRegisters for PcpuRegisters {
     ghost Keeps = { KeepsPercpu };
 
     fn open(alloc: Global, facts: &PcpuFacts) -> Result<Option<PcpuRegisters>, Memory> {
-        if JudgedPercpu::can_begin(facts) {
+        if is_base(facts) {
             Ok(Some(opened(alloc, facts)?))
         } else {
             Ok(None)
@@ -48,7 +52,7 @@ impl TableRegisters for PcpuRegisters {
     }
 
     fn may_own(facts: &PcpuFacts, who: Option<CpuId>) -> bool {
-        JudgedPercpu::may_own(facts, who)
+        may_own(facts, who)
     }
 
     fn may_end(&self, facts: &PcpuFacts, slot: u32, pass: u64) -> bool {

@@ -1,9 +1,11 @@
-ghost use Rattle.std.specs.Prelude.{◌≡◌, ◌≤◌, ◌<◌, ◌*◌, ◌↔◌, ℕ, pos, IsTrue, length, unsigned_abs};
-ghost use Rattle.vms_history.specs.Common.{HasOnline, IsCpu, IsLayout};
-ghost use Rattle.vms_pcpu_core.specs.Common.{IsBase, HasLengths, IsCounterBase, IsLocalBase, IsPcpu, counters_of};
+//! Whether a history may begin with these facts, and which CPUs passes may own.
 
-use crate::facts::state_of;
-use crate::states::base_local;
+ghost use Rattle.std.specs.Prelude.{◌≡◌, ◌*◌, ◌↔◌, ℕ, IsTrue, length};
+ghost use Rattle.vms_history.specs.Common.{HasOnline, IsCpu, IsLayout};
+ghost use Rattle.vms_pcpu_core.specs.Common.{HasLengths, IsBase, IsCounterBase, IsLocalBase, IsPcpu, MayOwn};
+ghost use Rattle.vms_pcpu_core.specs.Common.{counters_of, local_at};
+
+use crate::opening::cpu_state;
 use vms_base::{CpuId, CpuState};
 use vms_pcpu_core::PcpuFacts;
 
@@ -14,7 +16,7 @@ const MOST_BATCH: u32 = 1 << 16;
 const MOST_COUNT: u64 = 1 << 60;
 
 /// Whether a history may begin with these facts.
-pub fn is_base(facts: &PcpuFacts) -> bool
+pub(crate) fn is_base(facts: &PcpuFacts) -> bool
     ensures { IsTrue result ↔ IsBase facts.now }
 {
     if !has_lengths(facts) {
@@ -48,7 +50,7 @@ fn has_online(facts: &PcpuFacts) -> bool
     ensures { IsTrue result ↔ HasOnline facts.now.layout facts.now.cpus }
 {
     for c in 0..facts.layout.cpus() {
-        if state_of(facts, CpuId { number: c }) == CpuState::Online {
+        if cpu_state(facts, CpuId { number: c }) == CpuState::Online {
             return true;
         }
     }
@@ -118,8 +120,33 @@ fn local_fits(facts: &PcpuFacts, c: u32, j: usize) -> bool
     if local.unsigned_abs() > facts.base.batch.get(j) as u64 {
         return false;
     }
-    if state_of(facts, CpuId { number: c }) != CpuState::Absent {
+    if cpu_state(facts, CpuId { number: c }) != CpuState::Absent {
         return true;
     }
     local == 0
+}
+
+/// The local part of a CPU for a counter in the base.
+fn base_local(facts: &PcpuFacts, cpu: usize, counter: usize) -> i64
+    requires full { length facts.now.base.local ≡ facts.now.layout.cpus * counters_of facts.now.base }
+    requires cpu { IsCpu facts.now.layout cpu }
+    requires counter { IsPcpu facts.now counter }
+    ensures { result ≡ local_at facts.now.base cpu counter }
+{
+    let counters = facts.base.batch.len();
+    let _length = facts.base.local.len();
+    let at = cpu * counters + counter;
+    facts.base.local.get(at)
+}
+
+/// Whether a pass may begin that owns this CPU, or for `None` a control pass.
+pub(crate) fn may_own(facts: &PcpuFacts, who: Option<CpuId>) -> bool
+    ensures { IsTrue result ↔ MayOwn facts.now who }
+{
+    match who {
+        Some(cpu) => {
+            cpu.number < facts.layout.cpus() && cpu_state(facts, cpu) == CpuState::Online
+        }
+        None => true,
+    }
 }

@@ -1,6 +1,6 @@
 use Rattle.std.proofs.Common.{◌≡◌, ℕ, ◌+◌, ◌*◌, ◌^◌, ◌<◌, ap, ◌∙◌, arith}
 use Rattle.vms_base.proofs.Common.{cell-lt}
-use Rattle.vms_pcpu_judge.proofs.states.base_local.Goals as goal
+use Rattle.vms_pcpu_registers.proofs.bases.base_local.Goals as goal
 
 small : (cpus cpu width full counters counter : ℕ) → cpu < cpus → counter < counters → width ≡ counters
     → full ≡ cpus * counters → full < 2 ^ 63

@@ -1,5 +1,5 @@
 use Rattle.std.proofs.Common.{rules}
-use Rattle.vms_pcpu_judge.proofs.bases.is_base.Goals as goal
+use Rattle.vms_pcpu_registers.proofs.bases.is_base.Goals as goal
 
 pub returns : goal.returns
 returns c = (
