@@ -49,7 +49,7 @@ impl PagePeaks {
         let at = zone.number as usize;
         let peak = self.peaks.get(cpu.number as usize, at);
         let hidden = self.sums.get(at) - peak + peak.max(t as u64);
-        covers(facts.sizes.get(at), mark, hidden)
+        covers(facts.sizes.get(at), mark, hidden as u128)
     }
 
     /// Whether a mark covers what CPUs may hide of a zone.
@@ -61,6 +61,6 @@ impl PagePeaks {
             (peak_sum facts.now zone.number h) }
     {
         let at = zone.number as usize;
-        covers(facts.sizes.get(at), mark, self.sums.get(at))
+        covers(facts.sizes.get(at), mark, self.sums.get(at) as u128)
     }
 }

@@ -8,4 +8,6 @@ mod opening;
 mod peaks;
 mod steps;
 
+pub use covering::covers;
+pub use opening::opening_peak;
 pub use peaks::{Newest, PagePeaks};

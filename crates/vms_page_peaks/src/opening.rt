@@ -59,8 +59,8 @@ fn open_cpu(peaks: &mut Grid<u64>, facts: &Facts, cpu: CpuId)
     }
 }
 
-/// The largest of a CPU's threshold in a place and of its differentials there.
-fn opening_peak(facts: &Facts, cpu: CpuId, place: PlaceId) -> u64
+/// The largest of a CPU's threshold in a place and of its differentials there, as a history begins.
+pub fn opening_peak(facts: &Facts, cpu: CpuId, place: PlaceId) -> u64
     requires shaped { HasShape facts.now.layout facts.now.base }
     requires cpu { IsCpu facts.now.layout cpu.number }
     requires place { IsPlace facts.now.layout place.number }
