@@ -6,8 +6,9 @@ use vms_base::{
     CpuId, CpuState, Diffs, GroupId, Layout, PlaceId, Row, ZoneKind, ZoneName, ZoneSize,
 };
 use vms_core::{Event, Facts, State, Step};
-use vms_judge::{Verdict, judge};
-use vms_page_judge::JudgedPages;
+use vms_judge::Verdict;
+use vms_page_registers::PageRegisters;
+use vms_registers::judge;
 
 const ZONE: PlaceId = PlaceId { number: 0 };
 
@@ -208,7 +209,7 @@ fn judged(alloc: Global, story: Story) -> Result<Verdict, Fail> {
     let facts = facts_of(alloc, story)?;
     let lines = lines_of(story);
     let events = events_of(alloc, lines, lines.len())?;
-    Ok(judge::<JudgedPages>(&facts, events.as_slice()))
+    Ok(judge::<PageRegisters>(alloc, &facts, events.as_slice())?)
 }
 
 /// The verdict on the first lines of a story and then an event.
@@ -216,7 +217,7 @@ fn judged_with(alloc: Global, story: Story, count: usize, event: Event) -> Resul
     let facts = facts_of(alloc, story)?;
     let mut events = events_of(alloc, lines_of(story), count)?;
     events.push(event)?;
-    Ok(judge::<JudgedPages>(&facts, events.as_slice()))
+    Ok(judge::<PageRegisters>(alloc, &facts, events.as_slice())?)
 }
 
 #[test]

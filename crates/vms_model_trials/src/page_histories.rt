@@ -6,8 +6,9 @@ use vms_base::{
     ZoneKind, ZoneName, ZoneSize,
 };
 use vms_core::{Event, Facts, State, Step};
-use vms_judge::{Verdict, judge};
-use vms_page_judge::JudgedPages;
+use vms_judge::Verdict;
+use vms_page_registers::PageRegisters;
+use vms_registers::judge;
 
 const ZONE: PlaceId = PlaceId { number: 0 };
 
@@ -236,13 +237,13 @@ fn beginning(alloc: Global, count: usize) -> Result<Vec<Event>, AllocError> {
 /// The verdict on events after a base that has a mark of 50 pages.
 fn verdict_on(alloc: Global, events: &[Event]) -> Result<Verdict, Fail> {
     let facts = facts(alloc, 1000, 5, 50)?;
-    Ok(judge::<JudgedPages>(&facts, events))
+    Ok(judge::<PageRegisters>(alloc, &facts, events)?)
 }
 
 /// The verdict on no events.
 fn told(alloc: Global, value: i64, hidden: i64, mark: u64) -> Result<Verdict, Fail> {
     let facts = facts(alloc, value, hidden, mark)?;
-    Ok(judge::<JudgedPages>(&facts, &[]))
+    Ok(judge::<PageRegisters>(alloc, &facts, &[])?)
 }
 
 #[test]

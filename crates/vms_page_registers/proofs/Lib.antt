@@ -1,1 +1,2 @@
+mod AllZero
 mod ShownConditions

@@ -4,12 +4,12 @@ ghost use Rattle.vms_page_registers.specs.Keeps.{KeepsPages};
 ghost use Rattle.vms_page_registers.specs.PassesKept.{KeepsPages-begins, KeepsPages-ends};
 
 use crate::PageRegisters;
+use crate::bases::{is_base, may_own};
 use std::alloc::Global;
 use vms_base::{CpuId, Memory};
 use vms_core::{Facts, Step};
 use vms_history::Table;
-use vms_judge::{Judged, Role, RoleTable};
-use vms_page_judge::JudgedPages;
+use vms_judge::{Role, RoleTable};
 use vms_registers::TableRegisters;
 
 impl Table for PageRegisters {
@@ -26,7 +26,11 @@ impl Table for PageRegisters {
 
 impl RoleTable for PageRegisters {
     fn role(step: &Step) -> Role {
-        JudgedPages::role(step)
+        match *step {
+            Step::Split(pass, who) => Role::Begins(pass, who),
+            Step::Join(pass) => Role::Ends(pass),
+            _ => Role::Works,
+        }
     }
 }
 
@@ -36,7 +40,7 @@ impl TableRegisters for PageRegisters {
     ghost Keeps = { KeepsPages };
 
     fn open(alloc: Global, facts: &Facts) -> Result<Option<PageRegisters>, Memory> {
-        if JudgedPages::can_begin(facts) {
+        if is_base(facts) {
             Ok(Some(PageRegisters::opened(alloc, facts)?))
         } else {
             Ok(None)
@@ -48,7 +52,7 @@ impl TableRegisters for PageRegisters {
     }
 
     fn may_own(facts: &Facts, who: Option<CpuId>) -> bool {
-        JudgedPages::may_own(facts, who)
+        may_own(facts, who)
     }
 
     fn may_end(&self, facts: &Facts, slot: u32, pass: u64) -> bool {

@@ -2,4 +2,4 @@
 use Rattle.vms_page_registers.proofs.tables.PageRegistersTableRegisters.open.Goals as goal
 
 pub returns-in_ok-opened : goal.returns-in_ok-opened
-returns-in_ok-opened c = (c.can_begin.ensures.0 c.if-can_begin.true, λ held empty. c.in_ok-opened.ensures held)
+returns-in_ok-opened c = (c.is_base.ensures.0 c.if-is_base.true, λ held empty. c.in_ok-opened.ensures held)

@@ -1,8 +1,0 @@
-use Rattle.std.proofs.Common.{◌≡◌, take}
-use Rattle.std.specs.Prelude.{reverse}
-use Rattle.vms_history.specs.Common.{own}
-use Rattle.vms_core.specs.Own as known
-use Rattle.vms_page_judge.proofs.own_events.loaded.Given as goal
-
-abbrev pub invariant-loop-event : goal.invariant-loop-event
-invariant-loop-event l = l.told ≡ known.loaded l.place.number (own (reverse (take l.event-index l.past)) l.caller)

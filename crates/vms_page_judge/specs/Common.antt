@@ -1,2 +1,0 @@
--- The definitions that other crates and this one's proofs cite, passed on from one place. Declares nothing.
-pub use Rattle.vms_page_judge.specs.Openings.{OpensCpu}
