@@ -1,4 +1,2 @@
 pub mod Prefixes
-pub mod Given
 pub mod OneVerdict
-pub mod Common

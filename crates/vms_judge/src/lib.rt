@@ -1,20 +1,15 @@
-//! Judges a list of events by the definition of a legal history, for every table.
+//! What a judge tells of a list of events, and what it is told of each step, for every table.
 //!
-//! A table answers of its base, of one pass and of one step whether what its machine asks holds. What the passes may
-//! do, and which event is the first that isn't legal, stands here once. Nothing takes memory.
+//! A verdict says by the definition of a legal history which event is the first that isn't legal, or that there is
+//! none. At most one is true.
 #![tactic(auto)]
 
-mod acting;
-mod judging;
 mod laws;
-mod passes;
 mod roles;
 mod tables;
 mod verdicts;
 
-pub use judging::judge;
 pub use laws::one_verdict;
-pub use passes::{begun, lives, owner};
 pub use roles::Role;
-pub use tables::{Judged, RoleTable};
+pub use tables::RoleTable;
 pub use verdicts::Verdict;

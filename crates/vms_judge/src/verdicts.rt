@@ -1,4 +1,4 @@
-/// What `judge` finds of facts and a list of events, which stand the oldest first.
+/// What is so of facts and a list of events, which stand the oldest first.
 #[derive(Clone, Copy, Debug, PartialEq, Eq)]
 pub enum Verdict {
     /// No history may begin with the facts.

@@ -1,12 +1,14 @@
-ghost use Rattle.std.specs.Prelude.{◌<◌, ℕ, None, Some, refl};
+ghost use Rattle.std.specs.Prelude.{◌<◌, ◌≤◌, ℕ, None, Some, refl};
 ghost use Rattle.vms_calls.specs.Common.{Works, Begins, Ends};
 ghost use Rattle.vms_model_trials.specs.declared.bell_verdicts.Ring.TheVariants.{Open, Shut, Strike};
 
 use Verdict::{Complete, Illegal, NoBase};
+use std::alloc::Global;
 use std::test::Fail;
-use vms_base::CpuId;
+use vms_base::{CpuId, Memory};
 use vms_history::{Event, Table};
-use vms_judge::{Judged, Role, RoleTable, Verdict, judge, one_verdict};
+use vms_judge::{Role, RoleTable, Verdict, one_verdict};
+use vms_registers::{TableRegisters, judge};
 
 #[derive(Clone, Copy, Debug, PartialEq, Eq)]
 enum Ring {
@@ -15,7 +17,8 @@ enum Ring {
     Strike(u32),
 }
 
-/// A bell of so many CPUs, each of which may strike it at a number below that of the CPUs.
+/// A bell of so many CPUs, at most 128, each of which may strike it at a number below that of the CPUs. Whether it may
+/// goes by the number alone, so nothing is kept of a history.
 #[derive(Debug, Drop)]
 struct Bell;
 
@@ -30,7 +33,7 @@ impl Table for Bell {
       role = elim [ Open q who ↦ Begins q who | Shut q ↦ Ends q | Strike n ↦ Works ];
       base = λ cpus. 0;
       effect = λ cpus cpu step s. s;
-      CanBegin = λ cpus. 0 < cpus;
+      CanBegin = λ cpus. (0 < cpus) × (cpus ≤ 128);
       MayOwn = λ cpus. elim [ None ↦ Unit {0} | Some c ↦ c.number < cpus ];
       MayEnd = λ cpus own. Unit {0};
       Meets = λ cpus h s p. elim [ Open q who ↦ Unit {0} | Shut q ↦ Unit {0} | Strike n ↦ n < cpus ];
@@ -56,9 +59,21 @@ impl RoleTable for Bell {
     }
 }
 
-impl Judged for Bell {
-    fn can_begin(facts: &u32) -> bool {
-        *facts > 0
+impl TableRegisters for Bell {
+    ghost cpus_of = { λ cpus. cpus };
+
+    ghost Keeps = { λ cpus h held bell. Unit {0} };
+
+    fn open(_alloc: Global, facts: &u32) -> Result<Option<Bell>, Memory> {
+        if *facts > 0 && *facts <= 128 {
+            Ok(Some(Bell))
+        } else {
+            Ok(None)
+        }
+    }
+
+    fn cpus(facts: &u32) -> u32 {
+        *facts
     }
 
     fn may_own(facts: &u32, who: Option<CpuId>) -> bool {
@@ -68,21 +83,22 @@ impl Judged for Bell {
         }
     }
 
-    fn may_end(_facts: &u32, _past: &[Event<Ring>], _pass: u32) -> bool {
+    fn may_end(&self, _facts: &u32, _slot: u32, _pass: u64) -> bool {
         true
     }
 
-    fn meets(
-        facts: &u32,
-        _past: &[Event<Ring>],
-        _longer: &[Event<Ring>],
-        event: &Event<Ring>,
-    ) -> bool {
-        match event.step {
+    fn meets(&self, facts: &u32, _slot: u32, _pass: u64, step: &Ring) -> bool {
+        match *step {
             Ring::Strike(at) => at < *facts,
             _ => true,
         }
     }
+
+    fn take(&mut self, _facts: &u32, _slot: u32, _pass: u64, _step: &Ring) {}
+
+    ghost begins = { λ cpus h held next slot q step bell begins keeps. tt };
+
+    ghost ends = { λ cpus h held next slot q step bell ends keeps. tt };
 }
 
 macro_rules! by {
@@ -191,13 +207,12 @@ static ROWS: [(&str, &[Event<Ring>], Verdict); 22] = [
 #[test]
 fn verdicts(rt: HostRuntime) -> Result<(), Fail> {
     for (name, events, want) in ROWS.iter() {
-        assert_eq!(rt; judge::<Bell>(&2, events), *want, "{name}");
+        assert_eq!(rt; judge::<Bell>(rt.alloc(), &2, events)?, *want, "{name}");
     }
-    assert_eq!(rt;
-        judge::<Bell>(&0, &[OPEN_A]),
-        NoBase,
-        "the facts are judged first"
-    );
+    for (cpus, want) in [(0, NoBase), (1, Verdict::Open), (128, Verdict::Open), (129, NoBase)] {
+        let told = judge::<Bell>(rt.alloc(), &cpus, &[OPEN_A])?;
+        assert_eq!(rt; told, want, "the facts are judged first, at {cpus} CPUs");
+    }
     one_verdict::<Bell>();
     Ok(())
 }

@@ -1,4 +1,4 @@
-//! Trials of the models and of their judges: small histories of each table with their verdicts, how far numbers are
+//! Trials of the models and of their judge: small histories of each table with their verdicts, how far numbers are
 //! from the truth in histories of four CPUs, and what the model says of peaks and of kswapd on a machine of one CPU.
 #![tactic(auto)]
 
