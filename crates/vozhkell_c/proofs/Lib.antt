@@ -1,0 +1,4 @@
+mod LooseWords
+mod HandleWords
+mod ControlWords
+mod CountersWords
