@@ -13,7 +13,7 @@
  *
  * What the caller owes, which nothing tests:
  * - The fields of these variables are the library's: leave them alone, and go on with one copy of each variable.
- * - One call at a time on a variable, and on the counters with their lookups. A variable goes from one thread to another
+ * - One call at a time on a variable, and on the counters with their lookups. A variable goes from a thread to another
  *   by the start or the end of a thread, a lock or an atomic of the order memory_order_seq_cst. Calls on different
  *   handles may be made at the same time; so may one on the counters and some on their handles.
  * - A pointer is null, or leads to its type: a text to so many bytes, a name to a text with a byte 0 at its end. A

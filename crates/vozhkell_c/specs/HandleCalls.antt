@@ -1,12 +1,11 @@
 -- The calls of handles, with what each result of them means: the clauses of `vms_counters` by name.
-use Rattle.std.specs.Prelude.{◌≡◌, ℕ, nat_eq, ℤ, Bool, true, false, if◌then◌else◌, pos, negsuc}
-use Rattle.std.specs.Prelude.{Option, Some, None, Result, IfOk, MatchResult}
+use Rattle.std.specs.Prelude.{◌≡◌, ℕ, nat_eq, ℤ, Bool, true, false, if◌then◌else◌, pos, negsuc, Option, Some, None}
+use Rattle.std.specs.Prelude.{Result, IfOk, MatchResult}
 use Rattle.vms_base.specs.declared.kinds.Mode.TheVariants.{Dec, Inc, Mod}
-use Rattle.vms_base.specs.declared.kinds.WaterMark.{WaterMark}
-use Rattle.vms_base.specs.declared.kinds.WaterMark.TheVariants.{High, Low, Min}
-use Rattle.vms_calls.specs.declared.answers.Verdict.{Verdict}
-use Rattle.vms_world.specs.Common.{CounterId, CpuId, IsCounter, IsCpu, IsFold, IsItem, IsPlaceValue, IsSnapshot}
-use Rattle.vms_world.specs.Common.{IsSystemValue, IsWatermarkTest, ItemId, PlaceId, free_pages, limit_of}
+use Rattle.vms_world.specs.Common.{WaterMark, High, Verdict, CounterId, CpuId, IsCounter, IsCpu, IsFold, IsItem}
+use Rattle.vms_world.specs.Common.{IsPlaceValue, IsSnapshot, IsSystemValue, IsWatermarkTest, ItemId, PlaceId}
+use Rattle.vms_world.specs.Common.{free_pages, limit_of}
+use Rattle.vms_base.specs.declared.kinds.WaterMark.TheVariants.{Low, Min}
 use Rattle.vms_count.specs.Common.{owns_cpu}
 use Rattle.vms_look.specs.Common.{SaysTruly, SumsTruly, TellsTruly}
 use Rattle.vms_counters.specs.Calls.{Changes, IsZoneTest, Makes, Refuses, RefusesChange, RefusesZoneTest, layout_of}

@@ -1,9 +1,8 @@
 -- The numbers of places, counters and items, by the words that a trace has for them.
 use Rattle.std.specs.Prelude.{◌≡◌, ℕ, ◌+◌, nat_lt, ℤ, Bool, if◌then◌else◌, List, Option, Some, None, Result, Ok, Err}
 use Rattle.std.specs.Prelude.{bytes_eq, position}
-use Rattle.vms_base.specs.Common.{class_names, counter_at, place_count}
-use Rattle.vms_text.specs.Common.{is_node_place, place_named}
-use Rattle.vms_world.specs.Common.{Header}
+use Rattle.vms_world.specs.Common.{class_names, counter_at, place_count, is_node_place, Header}
+use Rattle.vms_text.specs.PlaceNames.{place_named}
 use Rattle.vms_counters.specs.Opened.{Opened}
 use Rattle.vozhkell_c.specs.Calls.{shown}
 use Rattle.vozhkell_c.specs.Statuses.{no_name, no_place, null, status_of}
@@ -43,4 +42,5 @@ find_item node word header = at_position header.layout.positions
 abbrev pub Finds : (Header → Result ℕ ℤ) → Option Opened → Option Opened → ℕ → ℕ → ℤ → Type 0
 Finds find new None after before status = (status ≡ null) × (new ≡ None) × (after ≡ before)
 Finds find new (Some old) after before status = (new ≡ Some old)
-    × (status ≡ status_of (λ cause. cause) (find old.header)) × (after ≡ shown (λ number. number) (find old.header) before)
+    × (status ≡ status_of (λ cause. cause) (find old.header)) × (after ≡ shown (λ number. number)
+    (find old.header) before)

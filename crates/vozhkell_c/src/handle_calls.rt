@@ -1,6 +1,7 @@
 ghost use Rattle.std.specs.Prelude.{◌≡◌, ℕ, ℤ};
 ghost use Rattle.vozhkell_c.specs.Calls.{Calls, Tells};
-ghost use Rattle.vozhkell_c.specs.HandleCalls.{IsAdd, IsDec, IsFolded, IsInc, IsSnap, IsSystem, IsValue, Tests, mark_of};
+ghost use Rattle.vozhkell_c.specs.HandleCalls.{IsAdd, IsDec, IsFolded, IsInc, IsSnap, IsSystem, IsValue, Tests};
+ghost use Rattle.vozhkell_c.specs.HandleCalls.{mark_of};
 ghost use Rattle.vozhkell_c.specs.Statuses as told;
 
 use crate::held_handle::HeldHandle;
@@ -18,7 +19,8 @@ pub extern "C" fn vozhkell_c_add(
     counter: u32,
     pages: i64,
 ) -> i32
-    ensures { Calls told.call_status (IsAdd (record { number = counter }) pages) handle.new.value handle.old.value result }
+    ensures { Calls told.call_status (IsAdd (record { number = counter }) pages)
+        handle.new.value handle.old.value result }
 {
     let Some(mut room) = handle.take(alloc) else {
         return NULL;
@@ -99,8 +101,8 @@ pub extern "C" fn vozhkell_c_value(
     counter: u32,
     pages: &mut u64,
 ) -> i32
-    ensures { Tells told.call_status (λ value. value) (IsValue (record { number = counter })) handle.new.value handle.old.value pages.new pages.old
-        result }
+    ensures { Tells told.call_status (λ value. value) (IsValue (record { number = counter }))
+        handle.new.value handle.old.value pages.new pages.old result }
 {
     let Some(mut room) = handle.take(alloc) else {
         return NULL;
@@ -127,8 +129,8 @@ pub extern "C" fn vozhkell_c_system_value(
     item: u32,
     pages: &mut u64,
 ) -> i32
-    ensures { Tells told.call_status (λ value. value) (IsSystem (record { number = item })) handle.new.value handle.old.value pages.new pages.old
-        result }
+    ensures { Tells told.call_status (λ value. value) (IsSystem (record { number = item }))
+        handle.new.value handle.old.value pages.new pages.old result }
 {
     let Some(mut room) = handle.take(alloc) else {
         return NULL;
@@ -155,8 +157,8 @@ pub extern "C" fn vozhkell_c_snapshot(
     counter: u32,
     pages: &mut u64,
 ) -> i32
-    ensures { Tells told.call_status (λ value. value) (IsSnap (record { number = counter })) handle.new.value handle.old.value pages.new pages.old
-        result }
+    ensures { Tells told.call_status (λ value. value) (IsSnap (record { number = counter }))
+        handle.new.value handle.old.value pages.new pages.old result }
 {
     let Some(mut room) = handle.take(alloc) else {
         return NULL;

@@ -1,6 +1,5 @@
 ghost use Rattle.std.specs.Prelude.{ℕ, ◌≤◌, ◌^◌, length, IfOk};
-ghost use Rattle.vms_calc.specs.Common.{IsThresholdRule};
-ghost use Rattle.vms_world.specs.Common.{IsHeader};
+ghost use Rattle.vms_world.specs.Common.{IsThresholdRule, IsHeader};
 ghost use Rattle.vozhkell_c.specs.Openings.{Closes, GoesByNormal, HoldsOpened, Opens};
 
 use crate::held_counters::HeldCounters;
