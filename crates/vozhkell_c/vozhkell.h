@@ -89,7 +89,9 @@ enum vozhkell_status {
     VOZHKELL_HEADER_TOO_MANY_COUNTERS = -33,
     VOZHKELL_HEADER_LINE_TOO_LONG = -34,
     VOZHKELL_HEADER_DOUBLED_ITEM = -35,
-    VOZHKELL_HEADER_TOO_MANY_ITEMS = -36
+    VOZHKELL_HEADER_TOO_MANY_ITEMS = -36,
+    /* A threshold was set 2,000,000 times. No call of this file sets one yet. */
+    VOZHKELL_TOO_OFTEN = -37
 };
 
 /* The watermarks of a zone. */

@@ -59,6 +59,7 @@ call_status (call.NoZone zone) = negsuc 11
 call_status (call.NoNode node) = negsuc 12
 call_status (call.NoZoneIndex index) = negsuc 13
 call_status (call.NoOrder order) = negsuc 14
+call_status call.TooOften = negsuc 36
 call_status (call.TooMuch overflow) = negsuc 15
 
 -- why a header is refused

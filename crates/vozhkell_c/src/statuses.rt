@@ -48,6 +48,7 @@ pub(crate) fn call_status(error: CallError) -> i32
         CallError::NoNode(_) => -13,
         CallError::NoZoneIndex(_) => -14,
         CallError::NoOrder(_) => -15,
+        CallError::TooOften => -37,
         CallError::TooMuch(_) => -16,
     }
 }
