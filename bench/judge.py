@@ -1,0 +1,174 @@
+#!/usr/bin/env python3
+"""Judges random histories of a table by the definitions of docs/MODEL.md, and compares the program's verdicts.
+
+    bench/judge.py TABLE [--seed S] [--histories N] [--program PATH] [--self]
+
+TABLE is pages, events, percpu or groups. The verdicts come from the events alone: what a pass knows and carries, what
+a CPU has spent, and what CPUs may hide are reckoned again from the events that stand. An event that isn't legal is not
+taken, and the history goes on without it. At the end stands how many events of each kind were legal, and how often each
+clause of the definitions was broken: in all, and alone.
+
+PATH is that of the built vms_judge_lines, which gets a line for each history and answers with one; without it nothing is
+compared. The first difference is printed with its history, and gives status 1. With --self each clause that can be
+broken has to be broken once in a hundred histories, or the status is 1 too."""
+import argparse
+import collections
+import importlib
+import random
+import subprocess
+import sys
+
+import judge_rules
+
+TABLES = ("pages", "events", "percpu", "groups")
+# Histories go to the program in parts.
+AT_ONCE = 2000
+# Clauses that hold wherever the others of the same kind of step and of its pass do, and are broken only with them.
+NEVER_BROKEN = {
+    "Put: the own CPU is online": "a pass owns a CPU that was online, and only a dead one becomes absent",
+}
+
+
+class Counts:
+    """What the histories had, by kind of step and by clause."""
+
+    def __init__(self):
+        self.histories = collections.Counter()
+        self.legal = collections.Counter()
+        self.illegal = collections.Counter()
+        self.clauses = {}
+        self.broken = collections.Counter()
+        self.alone = collections.Counter()
+
+    def clause(self, conditions):
+        """The clauses that are broken, of which each is noted."""
+        broken = []
+        for clause, holds in conditions:
+            self.clauses[clause] = True
+            if not holds:
+                broken.append(clause)
+        self.broken.update(broken)
+        if len(broken) == 1:
+            self.alone.update(broken)
+        return broken
+
+    def print(self):
+        legal, illegal = sum(self.legal.values()), sum(self.illegal.values())
+        print(f"{sum(self.histories.values())} histories ("
+              + ", ".join(f"{count} {end}" for end, count in sorted(self.histories.items()))
+              + f"), {legal + illegal} events: {legal} legal, {illegal} illegal")
+        for kind in sorted({*self.legal, *self.illegal}):
+            print(f"    {kind:8}{self.legal[kind]:8} legal {self.illegal[kind]:8} illegal")
+        print("broken clauses, in all and alone:")
+        for clause in sorted(self.clauses):
+            print(f"    {self.broken[clause]:8}{self.alone[clause]:8}  {clause}")
+
+    def too_rare(self):
+        """The clauses that were broken in less than one of a hundred histories, or though they can't be."""
+        often = sum(self.histories.values()) / 100
+        return [clause for clause in self.clauses
+                if (self.broken[clause] < often) != (clause in NEVER_BROKEN)]
+
+
+class Judged:
+    """A random history with the verdict on each of its events."""
+
+    def __init__(self, table, dice, counts):
+        self.facts = table.draw_facts(dice)
+        self.history = table.History(self.facts)
+        # (caller, step, the clauses that it breaks)
+        self.events = []
+        broken = counts.clause(table.base_conditions(self.facts))
+        if broken:
+            self.end = "no base"
+            self.events = [(0, ("Split", 1, 0), broken)]
+        else:
+            self.draw(table.Maker(dice, self.history), dice, counts)
+            self.end = "open" if self.history.living() else "ended"
+        counts.histories[self.end] += 1
+
+    def draw(self, maker, dice, counts):
+        for _ in range(dice.choice([10, 40, 80, 120])):
+            self.add(*maker.event(), counts)
+        if dice.random() < 0.6:
+            for event in maker.last_events():
+                self.add(*event, counts)
+
+    def add(self, caller, step, counts):
+        broken = counts.clause(self.history.conditions(caller, step))
+        (counts.illegal if broken else counts.legal)[step[0]] += 1
+        if not broken:
+            self.history.take(caller, step)
+        self.events.append((caller, step, broken))
+
+    def line(self):
+        """The facts, and then the events, as numbers."""
+        numbers = [*self.facts.numbers(), len(self.events)]
+        for caller, step, _ in self.events:
+            numbers.append(caller)
+            numbers.extend(judge_rules.numbers_of_step(self.history, step))
+        return " ".join(map(str, numbers))
+
+    def answer(self):
+        """What the program has to say of it."""
+        if self.end == "no base":
+            return self.end
+        return "".join("0" if broken else "1" for _, _, broken in self.events) + " " + self.end
+
+    def print(self, answer):
+        print(self.facts)
+        verdicts = answer.split(" ")[0] if self.end != "no base" else ""
+        for number, (caller, step, broken) in enumerate(self.events):
+            here = "0" if broken else "1"
+            theirs = verdicts[number:number + 1] or "-"
+            mark = " <-- differs" if here != theirs else ""
+            print(f"{number:4} {here} {theirs} {caller}: {step} {'; '.join(broken)}{mark}")
+        print(f"here: {self.answer()}\nthe program: {answer}")
+
+
+def compare(program, table, judged):
+    """Whether the program says the same of each history."""
+    told = "".join(history.line() + "\n" for history in judged)
+    ran = subprocess.run([*program.split(), table], input=told, capture_output=True, text=True)
+    if ran.returncode:
+        print(f"{program}: status {ran.returncode}: {ran.stderr[-2000:]}")
+        return False
+    answers = ran.stdout.splitlines()
+    for number, history in enumerate(judged):
+        answer = answers[number] if number < len(answers) else "nothing"
+        if answer != history.answer():
+            print(f"history {number} of this part differs:")
+            history.print(answer)
+            return False
+    return True
+
+
+def main():
+    parser = argparse.ArgumentParser(description=__doc__.split("\n")[0])
+    parser.add_argument("table", choices=TABLES)
+    parser.add_argument("--seed", type=int, default=1)
+    parser.add_argument("--histories", type=int, default=1000)
+    parser.add_argument("--program")
+    parser.add_argument("--self", action="store_true", dest="often")
+    asked = parser.parse_args()
+    table = importlib.import_module(f"judge_{asked.table}")
+    dice = random.Random(asked.seed)
+    counts = Counts()
+    left = asked.histories
+    while left:
+        judged = [Judged(table, dice, counts) for _ in range(min(left, AT_ONCE))]
+        left -= len(judged)
+        if asked.program and not compare(asked.program, asked.table, judged):
+            return 1
+    counts.print()
+    if asked.program:
+        print("the program says the same of each event")
+    rare = counts.too_rare()
+    if asked.often and rare:
+        print("broken too rarely, or though it can't be: " + "; ".join(rare))
+        return 1
+    return 0
+
+
+if __name__ == "__main__":
+    sys.exit(main())
