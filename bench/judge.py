@@ -1,20 +1,20 @@
 #!/usr/bin/env python3
 """Judges random histories of a table by the definitions of docs/MODEL.md, and compares the program's verdicts.
 
-    bench/judge.py TABLE [--seed S] [--histories N] [--program PATH] [--self]
+    bench/judge.py TABLE [--seed S] [--histories N] [--program PATH] [--self] [--write FOLDER]
 
-TABLE is pages, events, percpu or groups. The verdicts come from the events alone: what a pass knows and carries, what
-a CPU has spent, and what CPUs may hide are reckoned again from the events that stand. An event that isn't legal is not
-taken, and the history goes on without it. At the end stands how many events of each kind were legal, and how often each
-clause of the definitions was broken: in all, and alone.
+TABLE is pages, events, percpu or groups, or all, which takes each of them in turn. The verdicts come from the events
+alone: what a pass knows and carries, what a CPU has spent, and what CPUs may hide are reckoned again from the events
+that stand. An event that isn't legal is not taken, and the history goes on without it. At the end stands how many
+events of each kind were legal, and how often each clause of the definitions was broken: in all, and alone.
 
-PATH is that of the built vms_judge_lines, which gets a line for each history and answers with one; without it nothing is
-compared. The first difference is printed with its history, and gives status 1. With --self each clause that can be
-broken has to be broken once in a hundred histories, or the status is 1 too."""
+PATH is that of the built vms_judge_lines, which gets a line for each history and answers with one; without it nothing
+is compared. The first difference is printed with its history, and gives status 1. With --self each clause that can be
+broken has to be broken once in a hundred histories, or the status is 1 too. With --write the lines go to the file stdin
+of FOLDER, and what the program has to answer to its file stdout."""
 import argparse
 import collections
 import importlib
-import random
 import subprocess
 import sys
 
@@ -73,7 +73,9 @@ class Counts:
 class Judged:
     """A random history with the verdict on each of its events."""
 
-    def __init__(self, table, dice, counts):
+    def __init__(self, name, dice, counts):
+        table = importlib.import_module(f"judge_{name}")
+        self.table = name
         self.facts = table.draw_facts(dice)
         self.history = table.History(self.facts)
         # (caller, step, the clauses that it breaks)
@@ -102,8 +104,8 @@ class Judged:
         self.events.append((caller, step, broken))
 
     def line(self):
-        """The facts, and then the events, as numbers."""
-        numbers = [*self.facts.numbers(), len(self.events)]
+        """The table, and as numbers the facts, the number of events, and the events."""
+        numbers = [self.table, *self.facts.numbers(), len(self.events)]
         for caller, step, _ in self.events:
             numbers.append(caller)
             numbers.extend(judge_rules.numbers_of_step(self.history, step))
@@ -126,10 +128,10 @@ class Judged:
         print(f"here: {self.answer()}\nthe program: {answer}")
 
 
-def compare(program, table, judged):
+def compare(program, judged):
     """Whether the program says the same of each history."""
     told = "".join(history.line() + "\n" for history in judged)
-    ran = subprocess.run([*program.split(), table], input=told, capture_output=True, text=True)
+    ran = subprocess.run([program], input=told, capture_output=True, text=True)
     if ran.returncode:
         print(f"{program}: status {ran.returncode}: {ran.stderr[-2000:]}")
         return False
@@ -143,31 +145,43 @@ def compare(program, table, judged):
     return True
 
 
-def main():
-    parser = argparse.ArgumentParser(description=__doc__.split("\n")[0])
-    parser.add_argument("table", choices=TABLES)
-    parser.add_argument("--seed", type=int, default=1)
-    parser.add_argument("--histories", type=int, default=1000)
-    parser.add_argument("--program")
-    parser.add_argument("--self", action="store_true", dest="often")
-    asked = parser.parse_args()
-    table = importlib.import_module(f"judge_{asked.table}")
-    dice = random.Random(asked.seed)
-    counts = Counts()
-    left = asked.histories
+def judge(name, asked):
+    """Whether the histories of a table are judged alike, and break each clause often enough."""
+    dice, counts, left = judge_rules.Dice(asked.seed), Counts(), asked.histories
     while left:
-        judged = [Judged(table, dice, counts) for _ in range(min(left, AT_ONCE))]
+        judged = [Judged(name, dice, counts) for _ in range(min(left, AT_ONCE))]
         left -= len(judged)
-        if asked.program and not compare(asked.program, asked.table, judged):
-            return 1
+        if asked.program and not compare(asked.program, judged):
+            return False
+        if asked.write:
+            for file, lines in [("stdin", map(Judged.line, judged)), ("stdout", map(Judged.answer, judged))]:
+                with open(f"{asked.write}/{file}", "a", encoding="ascii") as out:
+                    out.writelines(line + "\n" for line in lines)
+    print(f"{name}: ", end="")
     counts.print()
     if asked.program:
         print("the program says the same of each event")
     rare = counts.too_rare()
     if asked.often and rare:
         print("broken too rarely, or though it can't be: " + "; ".join(rare))
-        return 1
-    return 0
+        return False
+    return True
+
+
+def main():
+    parser = argparse.ArgumentParser(description=__doc__.split("\n")[0])
+    parser.add_argument("table", choices=[*TABLES, "all"])
+    parser.add_argument("--seed", type=int, default=1)
+    parser.add_argument("--histories", type=int, default=1000)
+    parser.add_argument("--program")
+    parser.add_argument("--self", action="store_true", dest="often")
+    parser.add_argument("--write")
+    asked = parser.parse_args()
+    if asked.write:
+        for file in ("stdin", "stdout"):
+            open(f"{asked.write}/{file}", "w").close()
+    names = TABLES if asked.table == "all" else [asked.table]
+    return 0 if all([judge(name, asked) for name in names]) else 1
 
 
 if __name__ == "__main__":

@@ -478,7 +478,7 @@ class Maker(judge_rules.Maker):
         fold = [("LoadT", g), *(("Take", c, j) for j in layout.groups_of(g)), ("SetA", g)]
         late = [*fold[:-1], ("Put", layout.positions * g + dice.randrange(layout.positions)), fold[-1]]
         if dice.random() < 0.15:
-            fold.insert(dice.randrange(1, len(fold)), dice.choice([("LoadT", g), put, load_group]))
+            fold.insert(dice.randint(1, len(fold) - 1), dice.choice([("LoadT", g), put, load_group]))
         if dice.random() < 0.2:
             fold.pop(dice.randrange(len(fold)))
         odd = [dice.choice([put, ("Miss", k // 8), ("SetA", g), ("LoadA", c, g), ("SetT", c, g), ("SetM", g),
@@ -495,7 +495,8 @@ class Maker(judge_rules.Maker):
         set_all = [*(("LoadA", c, g) for c in online), ("LoadM", g), ("SetM", g), *(("SetT", c, g) for c in online)]
         plans = [set_all, [("SetT", dice.choice(online), dice.randrange(layout.places))],
                  [("SetM", g)], [("SetM", g), ("SetT", dice.choice(online), g)],
-                 [("LoadA", dice.choice(cpus), g)], [("LoadA", dice.choice(online), g), ("SetT", dice.choice(online), g)],
+                 [("LoadA", dice.choice(cpus), g)],
+                 [("LoadA", dice.choice(online), g), ("SetT", dice.choice(online), g)],
                  self.read_plan(), self.read_plan()]
         dead = [c for c in cpus if history.state.cpu_at(c) == DEAD]
         if dead:

@@ -4,6 +4,7 @@ A step is a tuple of its kind and what it names. A condition is drawn up as pair
 an event which isn't legal tells each clause that it breaks. Only the main pass, number 0, begins and ends passes.
 """
 import itertools
+import random
 
 ONLINE, DEAD, ABSENT = range(3)
 MOST_VOLUME = 2**48
@@ -11,6 +12,26 @@ MAIN = 0
 
 # The least and the most of each type of number; of the others the tables say which there are.
 RANGES = {"u32": (0, 2**32 - 1), "u64": (0, 2**64 - 1), "i64": (-(2**63), 2**63 - 1)}
+
+
+class Dice:
+    """Random draws that are the same under every version of python3 for the same seed."""
+
+    def __init__(self, seed):
+        self.random = random.Random(seed).random
+
+    def randrange(self, count):
+        return int(self.random() * count)
+
+    def randint(self, least, most):
+        return least + self.randrange(most - least + 1)
+
+    def choice(self, items):
+        return items[self.randrange(len(items))]
+
+    def sample(self, items, count):
+        left = list(items)
+        return [left.pop(self.randrange(len(left))) for _ in range(count)]
 
 
 def at(items, index, default):

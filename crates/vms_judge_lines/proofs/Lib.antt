@@ -1,1 +1,3 @@
+mod Bytes
 mod Judged
+mod Rooms

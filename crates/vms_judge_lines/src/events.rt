@@ -7,8 +7,7 @@ use vms_event_core::{Event, EventFacts, EventState, EventStep};
 use vms_event_registers::EventRegisters;
 
 /// Judges a history of event counters.
-pub(crate) fn judge_line(alloc: Global, line: &str) -> Result<Verdicts> {
-    let mut numbers = Numbers::of_line(line);
+pub(crate) fn judge_line(alloc: Global, mut numbers: Numbers<'_>) -> Result<Verdicts> {
     let facts = EventFacts {
         layout: read_layout(alloc, &mut numbers)?,
         cpus: numbers.read_row(alloc)?,

@@ -2,24 +2,20 @@
 #![tactic(auto)]
 
 mod events;
+mod groups;
 mod judging;
 mod names;
 mod numbers;
+mod pages;
+mod percpu;
 
+use crate::judging::Verdicts;
+use crate::numbers::Numbers;
 use anyhow::{Result, bail};
 use std::alloc::Global;
-use std::env::Env;
+use std::io;
 use std::io::{BufRead, BufReader, BufWriter, Write};
 use std::process::ExitCode;
-use std::{env, io};
-
-const USAGE: &str = "usage: vms_judge_lines events";
-
-/// Of which table the histories are.
-#[derive(Clone, Copy, Debug, PartialEq, Eq)]
-enum TableName {
-    Events,
-}
 
 fn main(rt: HostRuntime) -> ExitCode {
     match judge_input(&rt) {
@@ -32,28 +28,25 @@ fn main(rt: HostRuntime) -> ExitCode {
     }
 }
 
-fn judge_input<R: Env + Input + Print + AllocGlobal>(rt: &R) -> Result<()> {
-    let table = read_table(rt)?;
+fn judge_input<R: Input + Print + AllocGlobal>(rt: &R) -> Result<()> {
     let lines = BufReader::new(rt.alloc(), rt.reader())?.lines(rt.alloc());
     let mut out = BufWriter::new(rt.alloc(), io::writer(rt))?;
     for line in lines {
-        let line = line?;
-        let verdicts = match table {
-            TableName::Events => events::judge_line(rt.alloc(), line.as_str())?,
-        };
+        let verdicts = judge_line(rt.alloc(), line?.as_str())?;
         writeln!(out, "{verdicts}")?;
     }
     out.flush()?;
     Ok(())
 }
 
-fn read_table<R: Env + AllocGlobal>(rt: &R) -> Result<TableName> {
-    let words: Vec<String> = env::args(rt)?.skip(1).collect(rt.alloc())?;
-    let [name] = words.as_slice() else {
-        bail!("{USAGE}");
-    };
-    match name.as_str() {
-        "events" => Ok(TableName::Events),
-        _ => bail!("{USAGE}"),
+/// Judges the history of a line, which begins with the name of its table.
+fn judge_line(alloc: Global, line: &str) -> Result<Verdicts> {
+    let mut numbers = Numbers::of_line(line);
+    match numbers.table() {
+        Some("pages") => pages::judge_line(alloc, numbers),
+        Some("events") => events::judge_line(alloc, numbers),
+        Some("percpu") => percpu::judge_line(alloc, numbers),
+        Some("groups") => groups::judge_line(alloc, numbers),
+        _ => bail!("a line begins with the name of a table: pages, events, percpu or groups"),
     }
 }

@@ -3,7 +3,10 @@ ghost use Rattle.std.specs.Prelude.{◌≤◌, ◌↔◌, All, IsTrue};
 use crate::numbers::{FromNumbers, Numbers};
 use anyhow::{Result, bail};
 use std::alloc::Global;
-use vms_base::{CpuId, CpuState, EventId, Layout, ZoneKind, ZoneName};
+use vms_base::{
+    CounterId, CpuId, CpuState, EventId, GroupId, ItemId, Layout, PcpuId, PlaceId, ZoneKind,
+    ZoneName,
+};
 use vms_history::Event;
 
 impl FromNumbers for CpuId {
@@ -17,6 +20,46 @@ impl FromNumbers for CpuId {
 impl FromNumbers for EventId {
     fn from_numbers(numbers: &mut Numbers<'_>) -> Result<EventId> {
         Ok(EventId {
+            number: numbers.read()?,
+        })
+    }
+}
+
+impl FromNumbers for PcpuId {
+    fn from_numbers(numbers: &mut Numbers<'_>) -> Result<PcpuId> {
+        Ok(PcpuId {
+            number: numbers.read()?,
+        })
+    }
+}
+
+impl FromNumbers for PlaceId {
+    fn from_numbers(numbers: &mut Numbers<'_>) -> Result<PlaceId> {
+        Ok(PlaceId {
+            number: numbers.read()?,
+        })
+    }
+}
+
+impl FromNumbers for CounterId {
+    fn from_numbers(numbers: &mut Numbers<'_>) -> Result<CounterId> {
+        Ok(CounterId {
+            number: numbers.read()?,
+        })
+    }
+}
+
+impl FromNumbers for ItemId {
+    fn from_numbers(numbers: &mut Numbers<'_>) -> Result<ItemId> {
+        Ok(ItemId {
+            number: numbers.read()?,
+        })
+    }
+}
+
+impl FromNumbers for GroupId {
+    fn from_numbers(numbers: &mut Numbers<'_>) -> Result<GroupId> {
+        Ok(GroupId {
             number: numbers.read()?,
         })
     }

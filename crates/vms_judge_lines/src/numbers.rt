@@ -4,7 +4,7 @@ use std::num::ParseIntError;
 use std::str::{FromStr, SplitWhitespace};
 use vms_base::Row;
 
-/// The numbers of a line that haven't been read yet, with blanks between them.
+/// The numbers of a line that haven't been read yet, with blanks between them; at first its table stands before them.
 #[derive(Drop)]
 pub(crate) struct Numbers<'a> {
     words: SplitWhitespace<'a>,
@@ -20,6 +20,11 @@ impl<'a> Numbers<'a> {
         Numbers {
             words: line.split_whitespace(),
         }
+    }
+
+    /// The name of the table, with which the line begins.
+    pub(crate) fn table(&mut self) -> Option<&'a str> {
+        self.words.next()
     }
 
     /// What the next numbers give.
