@@ -2,7 +2,7 @@
 use Rattle.std.proofs.Common.{◌≡◌, ℕ, ◌+◌, ◌≤◌, List, [], ◌∷◌, ◌++◌, sym, ap, subst, ◌∙◌, arith, take, drop, length}
 use Rattle.std.proofs.Common.{get_or, max, ◌<◌}
 use Rattle.std.specs.Prelude.{reverse}
-use Rattle.std.proofs.lemmas.List.{reverse-append, take-append-drop}
+use Rattle.std.proofs.lemmas.List.{reverse-append, take-append-drop, take_more}
 use Rattle.vms_history.specs.declared.events.Event.{Event}
 use Rattle.vms_group_core.specs.declared.steps.GroupStep.{GroupStep}
 use Rattle.vms_group_core.specs.declared.steps.GroupStep.TheVariants.{AddV, AddU}
@@ -11,10 +11,15 @@ use Rattle.vms_group_core.specs.Common.{History, groups}
 use Rattle.vms_judge.specs.declared.verdicts.Verdict.{Verdict}
 use Rattle.vms_judge.specs.declared.verdicts.Verdict.TheVariants.{NoBase, Illegal, Open, Complete}
 use Rattle.vms_judge.specs.Common.{IsVerdict}
-use Rattle.vms_judge.proofs.Common.{reverse_more}
 use Rattle.vms_group_registers.specs.declared.facts.BoundedFacts.{BoundedFacts}
 use Rattle.vms_group_registers.specs.Bounded.{HadRoom, HasRoom, bounded_groups, rising_after, rising_in}
 use Rattle.vms_group_registers.proofs.BoundedHistories.{legal-of, legal-to}
+
+-- the history of one event more
+reverse_more : {X : Type 0} (xs : List X) (i : ℕ) (d : X) → i < length xs
+    → reverse (take (i + 1) xs) ≡ get_or xs i d ∷ reverse (take i xs)
+reverse_more xs i d within =
+    ap reverse (take_more xs i d within) ∙ reverse-append (take i xs) (get_or xs i d ∷ [])
 
 module _ (tree : Tree) where
   -- there is room for a step if no more amounts rise after it, and there stays room where there is more
