@@ -179,7 +179,8 @@ static void refuses_numbers(vozhkell *counters, vozhkell_handle *handle, vozhkel
             EXPECT(vozhkell_watermark_ok(handle, wrong[n], VOZHKELL_MIN, 2, &answer), VOZHKELL_NO_ZONE);
             EXPECT(vozhkell_watermark_ok(handle, NORMAL, VOZHKELL_MIN, 2 + wrong[n], &answer),
                    2 + wrong[n] > 3 ? VOZHKELL_NO_ZONE_INDEX : VOZHKELL_OK);
-            EXPECT(vozhkell_counter(counters, 1 + wrong[n], "nr_mlock", &number), VOZHKELL_NO_PLACE);
+            EXPECT(vozhkell_counter(counters, wrong[n] > NODE ? wrong[n] : NODE + wrong[n], "nr_mlock", &number),
+                   VOZHKELL_NO_PLACE);
         }
         EXPECT(vozhkell_watermark_ok(handle, NORMAL, (enum vozhkell_mark)(2 + wrong[n]), 2, &answer),
                2 + wrong[n] > 2 ? VOZHKELL_NO_MARK : VOZHKELL_OK);
