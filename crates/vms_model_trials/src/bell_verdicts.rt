@@ -209,7 +209,12 @@ fn verdicts(rt: HostRuntime) -> Result<(), Fail> {
     for (name, events, want) in ROWS.iter() {
         assert_eq!(rt; judge::<Bell>(rt.alloc(), &2, events)?, *want, "{name}");
     }
-    for (cpus, want) in [(0, NoBase), (1, Verdict::Open), (128, Verdict::Open), (129, NoBase)] {
+    for (cpus, want) in [
+        (0, NoBase),
+        (1, Verdict::Open),
+        (128, Verdict::Open),
+        (129, NoBase),
+    ] {
         let told = judge::<Bell>(rt.alloc(), &cpus, &[OPEN_A])?;
         assert_eq!(rt; told, want, "the facts are judged first, at {cpus} CPUs");
     }
