@@ -1,0 +1,4 @@
+pub mod LinedLanes
+pub mod PassOrder
+pub mod PhaseEnds
+pub mod Crossings
