@@ -295,26 +295,29 @@ class Trials:
     def cut_inputs(self):
         """The input ends after each byte: a whole `go` tells a refused header from a trace. Of a trace the whole lines
         are answered as in the whole text, and the line that was cut says at most what it says itself."""
-        text, (_, whole) = self.two_lanes.text, self.two_lanes.answer
-        go = text.index(b"\ngo\n") + 3
-        for size in range(len(text) + 1):
-            status, out = run(self.two_lanes.words, text[:size])
-            lines, cut = text[:size].count(b"\n"), len(text[:size].rpartition(b"\n")[2]) > 0
-            if size < go:
-                # The line that is refused is the one that was cut, or where it says something the next one.
-                named = out.startswith((b"line %d: " % (lines + 1), b"line %d: " % (lines + 2)))
-                expect(f"cut after {size} bytes", (status, out.count(b"\n"), named), (HEADER, 1, True))
-                continue
-            lines = max(lines, 7)
-            said = b"".join(part for number, part in answers(text, whole) if number <= lines)
-            expect(f"what began the output, cut after {size} bytes", out[:len(said)], said)
-            cut_line, _, end = out[len(said):].rpartition(b"done ")
-            refused = b": refused: " in cut_line
-            counts = lines - 7 + (1 if cut and size > go and not refused else 0)
-            expect(f"cut after {size} bytes", (status, end),
-                   (REFUSED if refused else DONE, b"accepted %d refused %d\n" % (counts, refused)))
-            expect(f"the cut line after {size} bytes", cut_line[:cut_line.find(b":")],
-                   b"line %d" % (lines + 1) if cut_line else b"")
+        for call in (self.two_lanes, self.in_turn):
+            text, (_, whole) = call.text, call.answer
+            go = text.index(b"\ngo\n") + 3
+            header = text[:go + 1].count(b"\n")
+            for size in range(len(text) + 1):
+                status, out = run(call.words, text[:size])
+                lines, cut = text[:size].count(b"\n"), len(text[:size].rpartition(b"\n")[2]) > 0
+                what = f"{call} cut after {size} bytes"
+                if size < go:
+                    # The line that is refused is the one that was cut, or where it says something the next one.
+                    named = out.startswith((b"line %d: " % (lines + 1), b"line %d: " % (lines + 2)))
+                    expect(what, (status, out.count(b"\n"), named), (HEADER, 1, True))
+                    continue
+                lines = max(lines, header)
+                said = b"".join(part for number, part in answers(text, whole) if number <= lines)
+                expect(f"{what}, what began the output", out[:len(said)], said)
+                cut_line, _, end = out[len(said):].rpartition(b"done ")
+                refused = b": refused: " in cut_line
+                counts = lines - header + (1 if cut and size > go and not refused else 0)
+                expect(what, (status, end),
+                       (REFUSED if refused else DONE, b"accepted %d refused %d\n" % (counts, refused)))
+                expect(f"{what}, the cut line", cut_line[:cut_line.find(b":")],
+                       b"line %d" % (lines + 1) if cut_line else b"")
 
     # Writing.
 

@@ -1,9 +1,9 @@
 -- What plain page counters ask of a call by a caller that owns a CPU or none, what the call answers and makes of them,
 -- and which steps it makes.
-use Rattle.std.specs.Prelude.{◌≡◌, ℕ, ◌^◌, ◌≤◌, false, List, Option, Some, None, All, unsigned_abs}
-use Rattle.vms_calls.specs.Common.{Header, CpuId, ZoneSize, Absent, Dead, Online, IsCounter, IsCpu, IsItem, IsNode}
-use Rattle.vms_calls.specs.Common.{IsZone, after, GoesOnTo, State, Step, at_least_zero, cpu_at, system_at, value_at}
-use Rattle.vms_calls.specs.Common.{with_cpu, facts_of, pages, History, state_after, HasWon}
+use Rattle.std.specs.Prelude.{◌≡◌, ℕ, ◌-◌, ◌^◌, ◌<◌, ◌≤◌, false, List, length, Option, Some, None, All, unsigned_abs}
+use Rattle.vms_calls.specs.Common.{Header, CpuId, ZoneSize, Absent, Dead, HasOnline, IsHeader, Online, IsCounter, IsCpu}
+use Rattle.vms_calls.specs.Common.{IsItem, IsNode, most_sets, IsZone, after, GoesOnTo, State, Step, at_least_zero}
+use Rattle.vms_calls.specs.Common.{cpu_at, system_at, value_at, with_cpu, facts_of, pages, History, state_after, HasWon}
 use Rattle.vms_calls.specs.PageCalls.{IsPageCall, MayMakePageCall, owns_cpu}
 use Rattle.vms_calls.specs.declared.page_calls.PageAnswer.{PageAnswer}
 use Rattle.vms_calls.specs.declared.page_calls.PageAnswer.TheVariants as answer
@@ -11,9 +11,9 @@ use Rattle.vms_calls.specs.declared.page_calls.PageCall.{PageCall}
 use Rattle.vms_calls.specs.declared.page_calls.PageCall.TheVariants.{Change, Fold, Test, Value, Snapshot, System}
 use Rattle.vms_calls.specs.declared.page_calls.PageCall.TheVariants.{SetPressure, SetNormal, Bury, Turn}
 use Rattle.vms_core.specs.ChangedStates.{with_change}
-use Rattle.vms_plain_pages.specs.Common.{FoldsCpu, balance_at, snapshot_of, verdict_at}
-use Rattle.vms_plain_control.specs.KnownPeaks.{KnowsPeaks}
-use Rattle.vms_plain_control.specs.SetCounts.{SetsEachAtMost, SetsOnly}
+use Rattle.vms_plain_pages.specs.Common.{FoldsCpu, IsSmallState, balance_at, snapshot_of, verdict_at}
+use Rattle.vms_plain_control.specs.KnownPeaks.{HasAllPeaks, KnowsPeaks}
+use Rattle.vms_plain_control.specs.SetCounts.{SetAtMost, SetsEachAtMost, SetsOnly}
 
 -- a call is one of this caller, and what it names is of the header and may be so called in this state
 abbrev pub FitsPageCall : Header → PageCall → Option CpuId → State → Type 0
@@ -31,6 +31,28 @@ FitsPageCall header (Bury c) owner s =
     (owner ≡ None) × IsCpu header.layout c.number × (cpu_at s c.number ≡ Dead)
 FitsPageCall header (Turn n order most) owner s =
     (owner ≡ None) × IsNode header.layout n.number × (order ≤ 10) × (most ≤ 3)
+
+-- what a call needs that sets each threshold and each mark at most so often: the header's sizes, small numbers, all
+-- peaks, a CPU that is online, and words that may be set so often again
+pub record MaySetThresholds (header : Header) (times : ℕ) (s : State) (peaks : List ℕ) : Type 0 where
+  pub valid : IsHeader header
+  pub numbers : IsSmallState header.layout (2 ^ 61) s
+  pub full : HasAllPeaks header.layout peaks
+  pub some_online : HasOnline header.layout s.cpu
+  pub room : SetAtMost header.layout (most_sets - times) s
+
+-- what a call needs of what stands: of values only that theirs does, of a sum or a move that numbers are small
+abbrev pub HasAllForCall : Header → PageCall → State → List ℕ → Type 0
+HasAllForCall header (Change k delta how) s peaks = IsHeader header × IsSmallState header.layout (2 ^ 61) s
+HasAllForCall header (Fold c) s peaks = IsSmallState header.layout (2 ^ 61) s
+HasAllForCall header (Test g mark most) s peaks = IsHeader header × IsSmallState header.layout (2 ^ 61) s
+HasAllForCall header (Value k) s peaks = k.number < length s.place
+HasAllForCall header (Snapshot k) s peaks = IsSmallState header.layout (2 ^ 61) s
+HasAllForCall header (System i) s peaks = i.number < length s.system
+HasAllForCall header (SetPressure n) s peaks = MaySetThresholds header 1 s peaks
+HasAllForCall header (SetNormal n) s peaks = MaySetThresholds header 1 s peaks
+HasAllForCall header (Bury c) s peaks = MaySetThresholds header 1 s peaks
+HasAllForCall header (Turn n order most) s peaks = MaySetThresholds header 2 s peaks
 
 -- what a call answers, and which state it makes of another
 abbrev pub AnswersPageCall : Header → PageCall → Option CpuId → State → State → PageAnswer → Type 0

@@ -1,12 +1,11 @@
-ghost use Rattle.std.specs.Prelude.{◌≡◌, ◌-◌, ◌^◌};
-ghost use Rattle.vms_calls.specs.Common.{HasOnline, IsHeader, most_sets};
-ghost use Rattle.vms_calls.specs.PageCalls.{owns_cpu};
+ghost use Rattle.std.specs.Prelude.{◌≡◌, ◌^◌, false};
+ghost use Rattle.vms_calls.specs.Common.{IsHeader};
+ghost use Rattle.vms_calls.specs.PageCalls.{asks_rules, owns_cpu};
 ghost use Rattle.vms_calls.specs.declared.page_calls.PageAnswer.TheVariants.{Done};
 ghost use Rattle.vms_calls.specs.declared.page_calls.PageCall.TheVariants.{Change};
 ghost use Rattle.vms_plain_pages.specs.Common.{IsSmallState};
 ghost use Rattle.vms_plain_control.specs.KnownPeaks.{HasAllPeaks};
-ghost use Rattle.vms_plain_control.specs.PageCalls.{AnswersPageCall, FitsPageCall, MakesPageCall};
-ghost use Rattle.vms_plain_control.specs.SetCounts.{SetAtMost};
+ghost use Rattle.vms_plain_control.specs.PageCalls.{AnswersPageCall, FitsPageCall, HasAllForCall, MakesPageCall};
 
 use crate::{Peaks, bury, set_normal, set_pressure, turn};
 use vms_base::{CounterId, CpuId, Header, Mode};
@@ -15,7 +14,8 @@ use vms_calls::{PageAnswer, PageCall};
 use vms_core::Plain;
 use vms_plain_pages::{fold, place_value, snapshot, system_value, watermark_test};
 
-/// Makes a call of a caller that owns a CPU, or none, and returns its answer.
+/// Makes a call of a caller that owns a CPU, or none, and returns its answer. A call that sets no threshold leaves the
+/// peaks, and asks nothing of them.
 pub fn call<N: Rule, P: Rule>(
     pages: &mut Plain,
     peaks: &mut Peaks,
@@ -24,16 +24,13 @@ pub fn call<N: Rule, P: Rule>(
     owner: Option<CpuId>,
     call: PageCall,
 ) -> PageAnswer
-    requires header { IsHeader header.now }
-    requires numbers { IsSmallState header.now.layout (2 ^ 61) pages.old }
-    requires full { HasAllPeaks header.now.layout peaks.old }
-    requires some_online { HasOnline header.now.layout pages.old.cpu }
-    requires room { SetAtMost header.now.layout (most_sets - 2) pages.old }
     requires fits { FitsPageCall header.now call owner pages.old }
+    requires has { HasAllForCall header.now call pages.old peaks.old }
     ensures makes { MakesPageCall header.now (P.answers rules.now.pressure) (N.answers rules.now.normal) call owner
         result pages.old peaks.old pages.new peaks.new }
     ensures answers { AnswersPageCall header.now call owner pages.old pages.new result }
-    ensures full { HasAllPeaks header.now.layout peaks.new }
+    ensures full { HasAllPeaks header.now.layout peaks.old → HasAllPeaks header.now.layout peaks.new }
+    ensures leaves { asks_rules call ≡ false → peaks.new ≡ peaks.old }
 {
     rules.tells();
     match call {

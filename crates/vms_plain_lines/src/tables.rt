@@ -39,19 +39,18 @@ impl Model for PlainTables {
 }
 
 impl PlainTables {
-    ghost use Rattle.std.specs.Prelude.{◌≡◌, ◌≢◌, ◌-◌, ◌^◌, map, Some};
+    ghost use Rattle.std.specs.Prelude.{◌≡◌, ◌≢◌, map, false, Some};
+    ghost use Rattle.vms_calls.specs.PageCalls.{asks_rules};
     ghost use Rattle.vms_calls.specs.declared.page_calls.PageCall.TheVariants.{Bury};
-    ghost use Rattle.vms_world.specs.Common.{Header, HasOnline, IsHeader, IsPlainBase, LeavesVolume, most_sets};
-    ghost use Rattle.vms_world.specs.Common.{line_of, spent_on_pcpu, volume, Item, Cpu, event_call, page_call};
-    ghost use Rattle.vms_world.specs.Common.{pcpu_call, owner_of};
+    ghost use Rattle.vms_world.specs.Common.{Header, IsHeader, IsPlainBase, LeavesVolume, line_of, spent_on_pcpu};
+    ghost use Rattle.vms_world.specs.Common.{volume, Item, Cpu, event_call, page_call, pcpu_call, owner_of};
     ghost use Rattle.vms_answers.specs.Common.{event_told, page_told, pcpu_told};
-    ghost use Rattle.vms_plain_control.specs.Common.{HasAllPeaks, SetAtMost};
-    ghost use Rattle.vms_plain_control.specs.PageCalls.{AnswersPageCall, FitsPageCall};
+    ghost use Rattle.vms_plain_control.specs.Common.{HasAllPeaks};
+    ghost use Rattle.vms_plain_control.specs.PageCalls.{AnswersPageCall, FitsPageCall, HasAllForCall};
     ghost use Rattle.vms_plain_events.specs.Common.{FitsCall, MakesCall};
     ghost use Rattle.vms_plain_lines.specs.EventRooms.{HaveRoomForEvents};
     ghost use Rattle.vms_plain_lines.specs.PageRooms.{HaveRoomForPages};
     ghost use Rattle.vms_plain_lines.specs.PlainStates.{GoesOnIf};
-    ghost use Rattle.vms_plain_pages.specs.Common.{IsSmallState};
     ghost use Rattle.vms_plain_pcpu.specs.Common.{AnswersCall, HasLocalsForCall, HasRoomForCall, with_call};
     ghost use Rattle.vms_text.specs.declared.acts.Act.TheVariants.{Dead};
 
@@ -81,8 +80,8 @@ impl PlainTables {
         }
     }
 
-    /// Makes the call of a line of this lane on the page counters, and returns its answer. A burial makes calls on the
-    /// other tables too, so the line goes on by `bury` alone.
+    /// Makes the call of a line of this lane on the page counters, and returns its answer. A call that sets no threshold
+    /// leaves the peaks. A burial makes calls on the other tables too, so the line goes on by `bury` alone.
     pub fn call_pages<N: Rule, P: Rule>(
         &mut self,
         rules: &Rules<N, P>,
@@ -90,16 +89,13 @@ impl PlainTables {
         lane: Lane,
         call: PageCall,
     ) -> PageAnswer
-        requires header { IsHeader header.now }
-        requires numbers { IsSmallState header.now.layout (2 ^ 61) self.old.pages }
-        requires full { HasAllPeaks header.now.layout self.old.peaks }
-        requires some_online { HasOnline header.now.layout self.old.pages.cpu }
-        requires room { SetAtMost header.now.layout (most_sets - 2) self.old.pages }
         requires fits { FitsPageCall header.now call (owner_of lane) self.old.pages }
+        requires has { HasAllForCall header.now call self.old.pages self.old.peaks }
         ensures answers { AnswersPageCall header.now call (owner_of lane) self.old.pages self.new.pages result }
         ensures after { self.new ≡ record self.old { pages = self.new.pages; peaks = self.new.peaks } }
-        ensures full { HasAllPeaks header.now.layout self.new.peaks }
-        ensures goes_on { (item : Item) → item.lane ≡ lane → page_call lane item.act ≡ Some call →
+        ensures full { HasAllPeaks header.now.layout self.old.peaks → HasAllPeaks header.now.layout self.new.peaks }
+        ensures leaves { asks_rules call ≡ false → self.new.peaks ≡ self.old.peaks }
+        ensures goes_on { IsHeader header.now → (item : Item) → item.lane ≡ lane → page_call lane item.act ≡ Some call →
             ((c : CpuId) → call ≢ Bury c) → GoesOnIf header.now (P.answers rules.now.pressure)
             (N.answers rules.now.normal) item (HaveRoomForPages lane call) self.old self.new (page_told result) }
     {

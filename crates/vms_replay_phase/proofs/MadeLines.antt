@@ -8,6 +8,7 @@ use Rattle.vms_calls.specs.declared.page_calls.PageAnswer.{PageAnswer}
 use Rattle.vms_calls.specs.declared.page_calls.PageAnswer.TheVariants as pages
 use Rattle.vms_calls.specs.declared.page_calls.PageCall.{PageCall}
 use Rattle.vms_calls.specs.declared.page_calls.PageCall.TheVariants.{Change, SetPressure, SetNormal, Bury, Turn}
+use Rattle.vms_calls.specs.declared.page_calls.PageCall.TheVariants as calls
 use Rattle.vms_world.specs.Common.{Header, CpuId, ZoneSize, IsHeader, class_names, declared_names, node_items, IsItem}
 use Rattle.vms_world.specs.Common.{Shape, State, most_sets, most_volume, EventCall, Count, event_spent, IsEvent}
 use Rattle.vms_world.specs.Common.{IsActOf, IsLaneOf, IsKnownValue, line_of, Act, Fold, Water, Val, Snap, Sys, Pressure}
@@ -20,7 +21,7 @@ use Rattle.vms_file_order.proofs.Common.{own-size}
 use Rattle.vms_plain_events.specs.Common.{FitsCall}
 use Rattle.vms_plain_lines.specs.Common.{GoesOnIf, HaveRoomForEvents, HaveRoomForPages, PlainStates, SparesPeaks}
 use Rattle.vms_plain_control.specs.Common.{SetAtMost, SetsEachAtMost}
-use Rattle.vms_plain_control.specs.PageCalls.{AnswersPageCall, FitsPageCall}
+use Rattle.vms_plain_control.specs.PageCalls.{AnswersPageCall, FitsPageCall, HasAllForCall, MaySetThresholds}
 use Rattle.vms_text.specs.declared.acts.Act.TheVariants.{Mod, Inc, Dec, Dead}
 use Rattle.vms_world.specs.Acts.{spent_by_call}
 use Rattle.vms_world.proofs.Common.{call-known, control-counts_none, spent_on_event-call, sum-known}
@@ -114,6 +115,39 @@ IsItem-known header i is known = by (nat_lt i header.layout.positions) refl know
         → i < 2 * header.layout.positions
     by true below holds = grind (arith, nat_tests)
     by false past holds = omega (arith, holds, most)
+
+-- a line has for its call on the page counters all that stands
+pub HasAllForCall-line : (header : Header) → IsHeader header → (lane : Lane) (act : Act) (now : PlainStates)
+    → MayMakeLine header lane act now → (owner : Option CpuId) (call : PageCall)
+    → FitsPageCall header call owner now.pages → HasAllForCall header call now.pages now.peaks
+HasAllForCall-line header valid lane act now may owner call fits = by call fits
+  where
+    once : MaySetThresholds header 1 now.pages now.peaks
+    once = record {
+      valid = valid;
+      numbers = may.room.pages;
+      full = may.full;
+      some_online = may.room.some_online;
+      room = SetAtMost-less header.layout now.pages may.sets;
+    }
+
+    by : (c : PageCall) → FitsPageCall header c owner now.pages → HasAllForCall header c now.pages now.peaks
+    by (Change k delta how) fits = (valid, may.room.pages)
+    by (calls.Fold c) fits = may.room.pages
+    by (calls.Test g mark most) fits = (valid, may.room.pages)
+    by (calls.Value k) fits = omega (arith, fits, may.room.pages.shaped.place)
+    by (calls.Snapshot k) fits = may.room.pages
+    by (calls.System i) fits = omega (arith, fits, may.room.pages.shaped.system)
+    by (SetPressure n) fits = once
+    by (SetNormal n) fits = once
+    by (Bury c) fits = once
+    by (Turn n order most) fits = record {
+      valid = valid;
+      numbers = may.room.pages;
+      full = may.full;
+      some_online = may.room.some_online;
+      room = may.sets;
+    }
 
 -- a call fits these tables, if there is one
 abbrev FitsIfSome : Header → PlainStates → Option PageCall → Option CpuId → Type 0

@@ -9,8 +9,8 @@ use Rattle.vms_file_order.specs.Common.{MayFollow}
 use Rattle.vms_plain_lines.specs.Common.{HaveRoomForPages}
 use Rattle.vms_plain_lines.proofs.LineSteps.{spares-call}
 use Rattle.vms_replay_phase.specs.Common.{MakesLine, MayMakeLine}
-use Rattle.vms_replay_phase.proofs.MadeLines.{FitsPageCall-line, HaveRoomForPages-line, MakesLine-set, SetAtMost-less}
-use Rattle.vms_replay_phase.proofs.MadeLines.{SetsEachAtMost-more, sets-answered}
+use Rattle.vms_replay_phase.proofs.MadeLines.{FitsPageCall-line, HasAllForCall-line, HaveRoomForPages-line}
+use Rattle.vms_replay_phase.proofs.MadeLines.{MakesLine-set, SetAtMost-less, SetsEachAtMost-more, sets-answered}
 use Rattle.vms_replay_phase.proofs.lines.make_page_call.Goals as goal
 
 pub bury-requires : goal.bury-requires
@@ -56,14 +56,12 @@ returns-in-Bury g c =
 pub call_pages-requires : goal.call_pages-requires
 call_pages-requires g c =
     let may = c.requires.may in
+    let fits = FitsPageCall-line c.args.header.now c.requires.header c.args.lane c.args.act c.args.tables.now may
+    c.args.call c.requires.makes in
     record {
-      header = c.requires.header;
-      numbers = may.room.pages;
-      full = may.full;
-      some_online = may.room.some_online;
-      room = may.sets;
-      fits = FitsPageCall-line c.args.header.now c.requires.header c.args.lane c.args.act c.args.tables.now may
-          c.args.call c.requires.makes;
+      fits = fits;
+      has = HasAllForCall-line c.args.header.now c.requires.header c.args.lane c.args.act c.args.tables.now may
+          (owner_of c.args.lane) c.args.call fits;
     }
 
 pub returns-in_default : goal.returns-in_default
@@ -85,7 +83,8 @@ returns-in_default g c =
           let room : HaveRoomForPages lane call items =
           HaveRoomForPages-line lane act call c.requires.makes items
           (λ d same k. (subst (λ (l : Lane). MayFollow now.pages (map line_of items) l act) same may).1.counters k) in
-          c.call_pages.ensures.goes_on item of on c.in_default.not-Bury w lanes items hs stands among room;
+          c.call_pages.ensures.goes_on c.requires.header item of on c.in_default.not-Bury w lanes items hs stands among
+          room;
       sets = ⊎_elim (λ asks. inl (spares-call lane act call c.requires.makes asks)) (λ sets. inr sets)
           (sets-answered header call (owner_of lane) now.pages next.pages c.call_pages.result
           c.call_pages.ensures.answers);

@@ -9,7 +9,7 @@ use Rattle.vms_plain_lines.proofs.PlainCalls.{GoesOnIf-inside}
 use Rattle.vms_plain_lines.proofs.tables.PlainTables.call_pages.Goals as goal
 
 pub returns-clause-goes_on : goal.returns-clause-goes_on
-returns-clause-goes_on g c item lane on no_burial =
+returns-clause-goes_on g c valid item lane on no_burial =
     let header = c.args.header.now in
     let inside : PlainStates = record {
       pages = c.self.inside.pages;
@@ -28,5 +28,5 @@ returns-clause-goes_on g c item lane on no_burial =
     inside.peaks c.call.new.pages c.call.new.peaks) c.owner_of-owner.ensures c.call.ensures.makes in
     GoesOnIf-inside header pressure normal item (HaveRoomForPages c.args.lane call) inside c.args.self.now
     c.self.view_is (page_told told) (record inside { pages = c.call.new.pages; peaks = c.call.new.peaks })
-    (GoesOnIf-pages pressure normal header c.requires.header c.args.lane call no_burial inside fits item lane on told
+    (GoesOnIf-pages pressure normal header valid c.args.lane call no_burial inside fits item lane on told
     c.call.new.pages c.call.new.peaks makes)
