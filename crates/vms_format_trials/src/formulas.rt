@@ -1,5 +1,6 @@
 ghost use Rattle.std.specs.Prelude.{◌≡◌, ◌≤◌};
-ghost use Rattle.vms_base.specs.Common.{IsValidSize, normal_threshold_of};
+ghost use Rattle.vms_history.specs.Common.{IsValidSize};
+ghost use Rattle.vms_base.specs.Thresholds.{normal_threshold_of};
 ghost use Rattle.vms_calc.specs.Common.{IsThresholdRule};
 
 use std::process::Abort;

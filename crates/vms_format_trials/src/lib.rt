@@ -1,4 +1,4 @@
-//! Trials of the crates at the bottom: encodings, formulas, and a text that is made.
+//! Trials of the crates at the bottom: encodings, formulas, a text that is made, and lines of written histories.
 #![tactic(auto)]
 
 #[cfg(test)]
@@ -7,3 +7,5 @@ mod encodings;
 mod formulas;
 #[cfg(test)]
 mod made_texts;
+#[cfg(test)]
+mod written_lines;
