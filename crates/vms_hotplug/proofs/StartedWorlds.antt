@@ -12,36 +12,45 @@ IfOk-is : (P : World → Type 0) (w : World) → P w → (result : Result World 
 IfOk-is P w holds (Err e) is = tt
 IfOk-is P w holds (Ok x) is = subst P (sym is) holds
 
-module _ (header : Header) (valid : IsHeader header) (answers : ZoneSize → ℕ → ℕ → Type 0) (next : State) where
+module _ (header : Header) (valid : IsHeader header) (answers : ZoneSize → ℕ → ℕ → Type 0) where
   -- a refresh of this state leads to the next page counters
-  abbrev Refreshes : State → Type 0
-  Refreshes s = (zones : List ℕ) × AreAnswers header answers (count_online s.cpu) zones
+  abbrev Refreshes : State → State → Type 0
+  Refreshes next s = (zones : List ℕ) × AreAnswers header answers (count_online s.cpu) zones
       × (next ≡ refreshed header zones s)
+
+  -- the page counters that a run begins with
+  abbrev StartsPages : State → Type 0
+  StartsPages s = (zones : List ℕ) × AreAnswers header answers header.layout.cpus zones
+      × (s ≡ refreshed header zones (bare_pages header))
 
   abbrev Starts : World → Type 0
   Starts w = (zones : List ℕ) × AreAnswers header answers header.layout.cpus zones × (w ≡ started header zones)
 
-  made : Refreshes (bare_pages header) → Starts (with_nothing_counted header next)
-  made (zones, are, same) = (
+  made-pages : (next : State) → Refreshes next (bare_pages header) → StartsPages next
+  made-pages next (zones, are, same) = (
     zones,
     subst (λ (n : ℕ). AreAnswers header answers n zones) (count_online-replicate header.layout.cpus) are,
-    ap (with_nothing_counted header) same,
+    same,
   )
 
-  module _ (bare : State) (is : bare ≡ bare_pages header) where
-    pub MayRefresh-is : MayRefresh header.layout bare
-    MayRefresh-is = subst (MayRefresh header.layout) (sym is) (MayRefresh-bare header valid)
+  pub MayRefresh-is : (bare : State) → bare ≡ bare_pages header → MayRefresh header.layout bare
+  MayRefresh-is bare is = subst (MayRefresh header.layout) (sym is) (MayRefresh-bare header valid)
 
-    module _ (refreshes : Refreshes bare) (result : Result World Memory)
-        (told : IfOk result (λ w. w ≡ with_nothing_counted header next)) where
-      pub Starts-told : IfOk result Starts
-      Starts-told =
-          IfOk-is Starts (with_nothing_counted header next) (made (subst Refreshes is refreshes)) result told
+  pub StartsPages-told : (next bare : State) → bare ≡ bare_pages header → Refreshes next bare → StartsPages next
+  StartsPages-told next bare is refreshes = made-pages next (subst (Refreshes next) is refreshes)
 
-      pub IsWorldOf-told : GivesThresholds answers → IfOk result (IsWorldOf header)
-      IsWorldOf-told gives = IfOk-is (IsWorldOf header) (with_nothing_counted header next)
-          (by (made (subst Refreshes is refreshes))) result told
-        where
-          by : Starts (with_nothing_counted header next) → IsWorldOf header (with_nothing_counted header next)
-          by (zones, are, same) =
-              subst (IsWorldOf header) (sym same) (IsWorldOf-start header valid answers gives zones are)
+  module _ (pages : State) (starts : StartsPages pages) (result : Result World Memory)
+      (told : IfOk result (λ w. w ≡ with_nothing_counted header pages)) where
+    counted : StartsPages pages → Starts (with_nothing_counted header pages)
+    counted (zones, are, same) = (zones, are, ap (with_nothing_counted header) same)
+
+    pub Starts-told : IfOk result Starts
+    Starts-told = IfOk-is Starts (with_nothing_counted header pages) (counted starts) result told
+
+    pub IsWorldOf-told : GivesThresholds answers → IfOk result (IsWorldOf header)
+    IsWorldOf-told gives = IfOk-is (IsWorldOf header) (with_nothing_counted header pages) (by (counted starts)) result
+        told
+      where
+        by : Starts (with_nothing_counted header pages) → IsWorldOf header (with_nothing_counted header pages)
+        by (zones, are, same) =
+            subst (IsWorldOf header) (sym same) (IsWorldOf-start header valid answers gives zones are)

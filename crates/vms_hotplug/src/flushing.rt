@@ -18,7 +18,8 @@ pub fn flush(world: &mut World, header: &Header)
     flush_pages(&mut world.pages, &header.layout);
 }
 
-fn flush_pages(pages: &mut State, layout: &Layout)
+/// Does the same on page counters alone.
+pub fn flush_pages(pages: &mut State, layout: &Layout)
     requires { IsSmallState layout.now (2 ^ 60) pages.old }
     ensures { pages.new ≡ flushed_pages layout.now pages.old }
 {

@@ -10,5 +10,6 @@ mod starting;
 mod summing;
 
 pub use cpus::{bring_up, take_down};
-pub use flushing::flush;
-pub use starting::start;
+pub use flushing::{flush, flush_pages};
+pub use refreshing::refresh;
+pub use starting::{start, start_pages};

@@ -7,9 +7,9 @@ use vms_base::{CpuState, Header};
 use vms_calc::{Rule, Rules};
 use vms_core::State;
 
-/// Gives the online CPUs the thresholds that the normal rule answers for so many, and each zone a mark that covers
-/// them.
-pub(crate) fn refresh<N: Rule, P: Rule>(pages: &mut State, header: &Header, rules: &Rules<N, P>)
+/// Gives the online CPUs the thresholds that the normal rule answers for so many, and each zone a mark that covers them
+/// (`refresh_zone_stat_thresholds` of mm/vmstat.c). The rule is asked once for each zone.
+pub fn refresh<N: Rule, P: Rule>(pages: &mut State, header: &Header, rules: &Rules<N, P>)
     requires layout { IsLayout header.now.layout }
     requires unrated { MayRefresh header.now.layout pages.old }
     requires one_size_each { length header.now.sizes ≡ length header.now.layout.zones }

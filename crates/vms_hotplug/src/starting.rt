@@ -1,5 +1,5 @@
 ghost use Rattle.std.specs.Prelude.{◌≡◌, ◌≤◌, ℕ, List, length, map, IfOk};
-ghost use Rattle.vms_world.specs.Common.{IsHeader, AreAnswers, bare_pages as bare_pages_of, started};
+ghost use Rattle.vms_world.specs.Common.{IsHeader, AreAnswers, bare_pages as bare_pages_of, refreshed, started};
 ghost use Rattle.vms_world.specs.Common.{with_nothing_counted, IsWorldOf};
 
 use crate::refreshing::refresh;
@@ -30,9 +30,24 @@ pub fn start<N: Rule, P: Rule>(
     ensures world { IfOk result (IsWorldOf header.now) }
 {
     rules.tells();
+    let pages = start_pages(alloc, header, rules)?;
+    world_with(alloc, header, pages)
+}
+
+/// The page counters of that world.
+pub fn start_pages<N: Rule, P: Rule>(
+    alloc: Global,
+    header: &Header,
+    rules: &Rules<N, P>,
+) -> Result<State, Memory>
+    requires { IsHeader header.now }
+    ensures { IfOk result (λ s. (zones : List ℕ)
+        × AreAnswers header.now (N.answers rules.now.normal) header.now.layout.cpus zones
+        × (s ≡ refreshed header.now zones (bare_pages_of header.now))) }
+{
     let mut pages = bare_pages(alloc, header)?;
     refresh(&mut pages, header, rules);
-    world_with(alloc, header, pages)
+    Ok(pages)
 }
 
 /// The page counters before any threshold is set.
