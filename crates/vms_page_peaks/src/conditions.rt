@@ -11,7 +11,8 @@ impl PagePeaks {
     ghost use Rattle.std.specs.Prelude.{◌≡◌, ◌<◌, ◌+◌, ◌≤◌, ◌↔◌, ◌∷◌, ℕ, IsTrue, unsigned_abs};
     ghost use Rattle.vms_history.specs.Common.{Covers, IsCounter, IsCpu, IsZone, Online, most_volume, size_at};
     ghost use Rattle.vms_core.specs.declared.steps.Step.TheVariants.{SetT};
-    ghost use Rattle.vms_core.specs.Common.{History, IsLegal, cpu_in, peak_sum, spent};
+    ghost use Rattle.vms_core.specs.Common.{History, IsLegal, cpu_in, peak, peak_sum, spent};
+    ghost use Rattle.vms_core.specs.declared.steps.Facts.{Facts as FactsOf};
     ghost use Rattle.vms_page_peaks.specs.Keeps.{KeepsPeaks};
 
     /// Whether a CPU may change a counter by so much more.
@@ -26,6 +27,17 @@ impl PagePeaks {
         let size = delta.unsigned_abs();
         let spent = self.spent.get(cpu.number as usize, counter.number as usize);
         size <= MOST_VOLUME && spent <= MOST_VOLUME - size
+    }
+
+    /// The largest threshold or differential that a CPU may hide by in a zone, in pages.
+    #[inline]
+    pub fn peak(&self, cpu: CpuId, zone: PlaceId) -> u64
+        requires { (facts : FactsOf) × (h : History) × KeepsPeaks facts h self.now × IsCpu facts.layout cpu.number
+            × IsZone facts.layout zone.number }
+        ensures { (facts : FactsOf) (h : History) → KeepsPeaks facts h self.now → IsCpu facts.layout cpu.number →
+            IsZone facts.layout zone.number → result ≡ peak facts cpu.number zone.number h }
+    {
+        self.peaks.get(cpu.number as usize, zone.number as usize)
     }
 
     /// Whether a mark covers what CPUs may hide of a zone once the threshold of a CPU that is online is set.

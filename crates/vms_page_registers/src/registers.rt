@@ -1,6 +1,6 @@
 use std::alloc::Global;
-use vms_base::{CpuState, Memory};
-use vms_core::{Facts, Step};
+use vms_base::{CpuId, CpuState, Memory, PlaceId};
+use vms_core::{Facts, State, Step};
 use vms_page_passes::PagePasses;
 use vms_page_peaks::{Newest, PagePeaks};
 use vms_page_words::PageWords;
@@ -17,8 +17,10 @@ pub struct PageRegisters {
 }
 
 impl PageRegisters {
-    ghost use Rattle.std.specs.Prelude.{ℕ, [], IfOk};
-    ghost use Rattle.vms_core.specs.Common.{History, IsBase, pages};
+    ghost use Rattle.std.specs.Prelude.{◌≡◌, ℕ, [], IfOk};
+    ghost use Rattle.vms_history.specs.Common.{IsCpu, IsLegal, IsZone};
+    ghost use Rattle.vms_core.specs.Common.{History, IsBase, cpu_in, pages, peak, settled, state_after};
+    ghost use Rattle.vms_core.specs.declared.steps.Facts.{Facts as FactsOf};
     ghost use Rattle.vms_registers.specs.Slots.{MayWork};
     ghost use Rattle.vms_page_peaks.specs.Keeps.{TellsNewest};
     ghost use Rattle.vms_page_registers.specs.Keeps.{KeepsPages};
@@ -36,6 +38,35 @@ impl PageRegisters {
             passes,
             peaks,
         })
+    }
+
+    /// The page counters as the next phase begins with them: nothing acknowledged, and nothing set.
+    pub fn settled(&self, alloc: Global) -> Result<State, Memory>
+        ensures { (facts : FactsOf) (h : History) (held : ℕ → ℕ) → KeepsPages facts h held self.now →
+            IfOk result (λ s. s ≡ settled (state_after facts h)) }
+    {
+        self.words.settled(alloc)
+    }
+
+    /// Whether a CPU is online, dead or absent.
+    pub fn cpu(&self, cpu: CpuId) -> CpuState
+        requires { (facts : FactsOf) × (h : History) × (held : ℕ → ℕ) × IsLegal pages facts h
+            × KeepsPages facts h held self.now × IsCpu facts.layout cpu.number }
+        ensures { (facts : FactsOf) (h : History) (held : ℕ → ℕ) → IsLegal pages facts h →
+            KeepsPages facts h held self.now → IsCpu facts.layout cpu.number → result ≡ cpu_in facts cpu.number h }
+    {
+        self.words.state(cpu)
+    }
+
+    /// The largest threshold or differential that a CPU may hide by in a zone, in pages.
+    pub fn peak(&self, cpu: CpuId, zone: PlaceId) -> u64
+        requires { (facts : FactsOf) × (h : History) × (held : ℕ → ℕ) × KeepsPages facts h held self.now
+            × IsCpu facts.layout cpu.number × IsZone facts.layout zone.number }
+        ensures { (facts : FactsOf) (h : History) (held : ℕ → ℕ) → KeepsPages facts h held self.now →
+            IsCpu facts.layout cpu.number → IsZone facts.layout zone.number →
+            result ≡ peak facts cpu.number zone.number h }
+    {
+        self.peaks.peak(cpu, zone)
     }
 
     /// What the peaks have to know of a step: beside a load of an acknowledgement, what stands of its CPU and its zone.

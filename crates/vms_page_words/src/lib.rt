@@ -3,6 +3,7 @@
 
 mod cells;
 mod conditions;
+mod leaving;
 mod opening;
 mod steps;
 mod words;

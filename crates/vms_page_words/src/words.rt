@@ -1,4 +1,4 @@
-ghost use Rattle.std.specs.Prelude.{◌≡◌, ◌↔◌, ℕ, IsTrue, pos};
+ghost use Rattle.std.specs.Prelude.{◌≡◌, ◌<◌, ◌↔◌, ℕ, IsTrue, length, pos};
 ghost use Rattle.vms_history.specs.Common.{IsCounter, IsCpu, IsGroup, IsPlace, IsZone};
 ghost use Rattle.vms_core.specs.Common.{HasShape, TellsGroup, cpu_at, diff_at, mark_at, threshold_at};
 ghost use Rattle.vms_core.specs.Common.{threshold_sets_at};
@@ -71,6 +71,15 @@ impl PageWords {
     pub fn cpu(&self, facts: &Facts, cpu: CpuId) -> CpuState
         requires shaped { HasShape facts.now.layout (state_of self.now) }
         requires cpu { IsCpu facts.now.layout cpu.number }
+        ensures { result ≡ cpu_at (state_of self.now) cpu.number }
+    {
+        self.cpu.get(cpu.number as usize)
+    }
+
+    /// The same, where no facts are at hand.
+    #[inline]
+    pub fn state(&self, cpu: CpuId) -> CpuState
+        requires { cpu.number < length (state_of self.now).cpu }
         ensures { result ≡ cpu_at (state_of self.now) cpu.number }
     {
         self.cpu.get(cpu.number as usize)

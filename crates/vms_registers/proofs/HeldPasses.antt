@@ -1,4 +1,4 @@
--- Slots hold the passes that live: which slot holds which pass, before an event and after it.
+-- For other crates too: slots hold the passes that live: which slot holds which pass, before an event and after it.
 use Rattle.std.proofs.Common.{◌≡◌, ◌≢◌, ℕ, zero, suc, cond, ◌==◌, ◌<◌, ◌≤◌, Bool, true, false, true≢false, List, ◌∷◌}
 use Rattle.std.proofs.Common.{Option, Some, None, refl, sym, ap, ◌∙◌, subst, arith, if◌then◌else◌, nat_eq, eqb-true}
 use Rattle.std.proofs.Common.{eq-eqb, ne_eqb}

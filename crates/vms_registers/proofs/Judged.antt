@@ -1,4 +1,4 @@
--- What registers show of the passes of a history, and that they show it of the next one.
+-- For other crates too: what registers show of the passes of a history, and that they show it of the next one.
 use Rattle.std.proofs.Common.{◌≡◌, ◌≢◌, ℕ, ◌+◌, ◌<◌, Bool, true, false, true≢false, List, [], ◌∷◌, length, refl, Option}
 use Rattle.std.proofs.Common.{Some, sym, ap, ◌∙◌, subst, arith, get_or, replicate, inl, inr, ◌^◌, MatchBool}
 use Rattle.std.proofs.Math.ListN.{set, length-set}

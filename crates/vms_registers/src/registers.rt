@@ -26,7 +26,7 @@ impl<T: TableRegisters> Registers<T> {
     ghost use Rattle.vms_history.specs.declared.events.Event.{Event};
     ghost use Rattle.vms_history.specs.Common.{IsFree, IsLegal, Works, Begins, Ends, begun_in, lives_in, own};
     ghost use Rattle.vms_history.specs.Common.{state_after};
-    ghost use Rattle.vms_registers.specs.Shows.{Shows};
+    ghost use Rattle.vms_registers.specs.Shows.{Shows, held_by};
 
     /// The registers of a history without events, if one may begin with these facts.
     pub fn open(alloc: Global, facts: &T::Facts) -> Result<Option<Registers<T>>, Memory>
@@ -68,6 +68,25 @@ impl<T: TableRegisters> Registers<T> {
             Role::Begins(pass, who) => self.begin(facts, pass, who),
             Role::Ends(pass) => self.end(pass),
         }
+    }
+
+    /// What the table itself keeps.
+    #[inline]
+    pub fn own(&self) -> &T
+        ensures { result.now ≡ self.now.own }
+    {
+        &self.own
+    }
+
+    /// The slot that holds a pass, and the pass itself. Pass 0 is in none.
+    #[inline]
+    pub fn slot(&self, pass: u64) -> Option<(u32, u32)>
+        ensures { MatchOption result ((s : ℕ) → held_by self.now.passes.holders s ≡ pass → pass ≡ 0)
+            (λ slot. (pass ≢ 0) × (held_by self.now.passes.holders slot.0 ≡ pass)
+            × (slot.0 < length self.now.passes.holders) × (slot.1 ≡ pass)) }
+    {
+        let slot = self.passes.slot(pass)?;
+        Some((slot, self.passes.holder(slot)))
     }
 
     /// Whether every pass has ended.
