@@ -1,4 +1,5 @@
-pub mod CopiedWords
+pub mod ShownWords
+pub mod OpeningWords
 pub mod KnownSpending
 pub mod OwnCounts
 pub mod LoadedWords

@@ -5,22 +5,22 @@ use Rattle.std.proofs.Common.{append_assoc, append-nil, length-append}
 use Rattle.std.specs.Prelude.{sum}
 use Rattle.std.proofs.lemmas.List.{set-get_or, drop_more, drop_all, length-replicate}
 use Rattle.std.proofs.lemmas.List.Sums.{sum_by-cons, sum_by-append}
-use Rattle.std.proofs.lemmas.Nat.{mul-add-lt}
-use Rattle.vms_history.specs.Common.{CpuId, EventId, CpuState, Online, Dead, Absent, is_online, online_from, cell}
-use Rattle.vms_history.specs.Common.{IsCpu, owner_in}
+use Rattle.vms_history.specs.Common.{CpuId, EventId, CpuState, Online, Dead, Absent, is_online, online_from, IsCpu}
+use Rattle.vms_history.specs.Common.{owner_in}
 use Rattle.vms_history.specs.declared.events.Event.{Event}
 use Rattle.vms_event_core.specs.declared.states.EventState.{EventState}
 use Rattle.vms_event_core.specs.declared.steps.EventFacts.{EventFacts}
 use Rattle.vms_event_core.specs.declared.steps.EventStep.{EventStep}
 use Rattle.vms_event_core.specs.declared.steps.EventStep.TheVariants.{LoadE}
 use Rattle.vms_event_core.specs.Common.{cpu_at, AtMostStands, IsAllEvents, loads, online_cpus, events, History, IsLegal}
-use Rattle.vms_event_core.specs.Common.{state_after, role, effect, IsEvent, event_count, word_at}
+use Rattle.vms_event_core.specs.Common.{state_after, role, effect, IsEvent, word_at}
 use Rattle.vms_event_core.proofs.Common.{beginnings-kept, words-grow, all_events-most}
 use Rattle.vms_event.specs.SharedWords.{shown}
-use Rattle.vms_event.specs.Common.{AreMadeFor}
-use Rattle.vms_seats.specs.Common.{Pass, Shared, IsLive, Made, MadeOne, MayStep}
+use Rattle.vms_event.specs.Common.{event_place}
+use Rattle.vms_seats.specs.Common.{Pass, IsLive, Made, MadeOne, MayStep}
 use Rattle.vms_seats.proofs.Common.{calls-none, calls-next}
 use Rattle.vms_event.proofs.KnownSpending.{given}
+use Rattle.vms_event.proofs.ShownWords.{shown-word}
 
 load-leaves : (facts : EventFacts) (who : Option CpuId) (c : CpuId) (k : EventId) (v : ℕ) (s : EventState)
     → effect facts who (LoadE c k v) s ≡ s
@@ -29,32 +29,26 @@ load-leaves facts None c k v s = refl
 
 pub load-may : (pass : Pass EventFacts EventStep) (facts : EventFacts) → pass.facts ≡ facts → (c : CpuId) (k : EventId)
     → IsCpu facts.layout c.number → IsEvent k.number
-    → MayStep events shown pass (cell event_count c.number k.number) (λ n. n) (λ found. LoadE c k found)
+    → MayStep events shown pass (event_place c.number k.number) (λ n. n) (λ found. LoadE c k found)
 load-may pass facts same c k c_in k_in h found goes small stands =
     let s = state_after pass.facts h in
     let least = (given pass h goes).0 in
+    let known : IsCpu pass.facts.layout c.number =
+    subst (λ (f : EventFacts). IsCpu f.layout c.number) (sym same) c_in in
+    let place = event_place c.number k.number in
     record {
       legal = (
         goes.legal,
         ((λ main. let some = least in omega arith), goes.lives),
         record {
-          cpu = subst (λ (f : EventFacts). IsCpu f.layout c.number) (sym same) c_in;
+          cpu = known;
           event = k_in;
-          value = stands;
+          value = sym (shown-word pass.facts s c.number k.number known k_in) ∙ stands;
         },
       );
-      shows = ap (λ (t : EventState). t.words) (load-leaves pass.facts (owner_in role h pass.number) c k found s)
-          ∙ sym (set-get_or s.words (cell event_count c.number k.number) 0)
-          ∙ ap (slice_set s.words (cell event_count c.number k.number)) stands;
+      shows = ap (shown pass.facts) (load-leaves pass.facts (owner_in role h pass.number) c k found s)
+          ∙ sym (set-get_or (shown pass.facts s) place 0) ∙ ap (slice_set (shown pass.facts s) place) stands;
     }
-
-pub load-place : (facts : EventFacts) (words : Shared EventFacts) → AreMadeFor facts words → (c : CpuId) (k : EventId)
-    → IsCpu words.facts.layout c.number → IsEvent k.number → cell event_count c.number k.number < words.table.words
-load-place facts words for c k c_in k_in =
-    let known : c.number < facts.layout.cpus = subst (λ (f : EventFacts). IsCpu f.layout c.number) for.same c_in in
-    let count = for.count in
-    let shaped = for.base.shaped in
-    omega (arith, mul-add-lt c.number event_count k.number facts.layout.cpus known k_in, count, shaped)
 
 -- each of these CPUs is online
 abbrev pub AllOnline : EventFacts → List CpuId → Type 0

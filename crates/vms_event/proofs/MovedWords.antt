@@ -5,20 +5,21 @@ use Rattle.std.proofs.Common.{append-nil, append_assoc, length-append}
 use Rattle.std.proofs.lemmas.Bool.{cases_lt}
 use Rattle.std.proofs.lemmas.Int.{ints}
 use Rattle.std.proofs.lemmas.List.{get_or_past}
-use Rattle.vms_history.specs.Common.{CpuId, EventId, Dead, Absent, cell, IsCpu, own, owner_in}
+use Rattle.vms_history.specs.Common.{CpuId, EventId, Dead, Absent, IsCpu, own, owner_in}
 use Rattle.vms_history.proofs.Common.{base_can_begin}
 use Rattle.vms_event_core.specs.declared.steps.EventFacts.{EventFacts}
 use Rattle.vms_event_core.specs.declared.steps.EventStep.{EventStep}
 use Rattle.vms_event_core.specs.declared.steps.EventStep.TheVariants.{TakeE, AddF}
 use Rattle.vms_event_core.specs.Common.{IsBase, cpu_at, IsLowestOnline, moves, folds, events, state_after, carried}
-use Rattle.vms_event_core.specs.Common.{role, effect, IsEvent, event_count}
+use Rattle.vms_event_core.specs.Common.{role, effect, IsEvent, word_at}
 use Rattle.vms_event_core.proofs.Common.{beginnings-kept}
-use Rattle.vms_event.specs.Common.{IsIdleControl}
+use Rattle.vms_event.specs.Common.{IsIdleControl, event_place}
 use Rattle.vms_event.specs.SharedWords.{shown}
 use Rattle.vms_seats.specs.Common.{Pass, IsLive, Made, MadeOne, MayStep}
 use Rattle.vms_seats.proofs.Common.{calls-none, calls-next, calls-both, calls-live}
 use Rattle.vms_event.proofs.KnownSpending.{given, owner-same}
 use Rattle.vms_event.proofs.OwnCounts.{unwrapped}
+use Rattle.vms_event.proofs.ShownWords.{shown-word, shown-with_word}
 
 -- a CPU that is not absent is one of the layout
 present-is_cpu : (facts : EventFacts) → IsBase facts → (c : ℕ) → cpu_at facts c ≢ Absent → IsCpu facts.layout c
@@ -30,13 +31,15 @@ present-is_cpu facts base c present = elim (cases_lt c (length facts.cpus)) [
 -- the control pass may take a word of a dead CPU
 pub take-may : (pass : Pass EventFacts EventStep) → IsIdleControl pass → (from : CpuId) (k : EventId)
     → cpu_at pass.facts from.number ≡ Dead → IsEvent k.number
-    → MayStep events shown pass (cell event_count from.number k.number) (λ n. 0) (λ found. TakeE from k found)
+    → MayStep events shown pass (event_place from.number k.number) (λ n. 0) (λ found. TakeE from k found)
 take-may pass control from k dead k_in h found goes small stands =
     let s = state_after pass.facts h in
     let least = (given pass h goes).0 in
     let none : owner_in role h pass.number ≡ None =
     owner-same pass h goes ∙ control.live.owner ∙ control.owns_none in
     let base = base_can_begin events pass.facts h goes.legal in
+    let from_in : IsCpu pass.facts.layout from.number =
+    present-is_cpu pass.facts base from.number (λ absent. absurd cc) in
     record {
       legal = (
         goes.legal,
@@ -45,13 +48,15 @@ take-may pass control from k dead k_in h found goes small stands =
           control = none;
           dead = dead;
           finds = record {
-            cpu = present-is_cpu pass.facts base from.number (λ absent. absurd cc);
+            cpu = from_in;
             event = k_in;
-            value = stands;
+            value = sym (shown-word pass.facts s from.number k.number from_in k_in) ∙ stands;
           };
         },
       );
-      shows = ap (λ who. (effect pass.facts who (TakeE from k found) s).words) none;
+      shows = ap (λ who. shown pass.facts (effect pass.facts who (TakeE from k found) s)) none
+          ∙ shown-with_word pass.facts s (beginnings-kept pass.facts [] h goes.legal).shape from.number k.number from_in
+          k_in 0;
     }
 
 -- a pass that has taken a word carries what it found
@@ -76,7 +81,7 @@ taken-carries new old from k v control k_in one = record {
 -- it may add that to a word of the lowest-numbered CPU that is online
 pub add-may : (pass : Pass EventFacts EventStep) (k : EventId) (v : ℕ) → Carries pass k.number v → v ≢ 0
     → (into : CpuId) → IsLowestOnline pass.facts into.number → IsEvent k.number
-    → MayStep events shown pass (cell event_count into.number k.number) (λ found. (found + v) % 2 ^ 64)
+    → MayStep events shown pass (event_place into.number k.number) (λ found. (found + v) % 2 ^ 64)
     (λ found. AddF into k v)
 add-may pass k v carries some into lowest k_in h found goes small stands =
     let s = state_after pass.facts h in
@@ -88,20 +93,25 @@ add-may pass k v carries some into lowest k_in h found goes small stands =
     let into_in : IsCpu pass.facts.layout into.number =
     present-is_cpu pass.facts base into.number (λ absent. absurd cc) in
     let amount : carried k.number (own h pass.number) ≡ pos v = ap (carried k.number) goes.own_same ∙ carries.amount in
-    let bounds = (beginnings-kept pass.facts [] h goes.legal).bounds in
+    let laws = beginnings-kept pass.facts [] h goes.legal in
+    let bounds = laws.bounds in
+    let is : word_at s into.number k.number ≡ found =
+    sym (shown-word pass.facts s into.number k.number into_in k_in) ∙ stands in
     let word = bounds.words into.number k.number into_in k_in in
     let most = bounds.carried_most pass.number k.number k_in in
     let below = bounds.below in
-    let fits : found + v < 2 ^ 64 = omega (arith, ints, word, most, amount, below, stands) in
+    let fits : found + v < 2 ^ 64 = omega (arith, ints, word, most, amount, below, is) in
     record {
       legal = (
         goes.legal,
         ((λ main. let given_one = least in omega arith), goes.lives),
         record { cpu = into_in; lowest = lowest; event = k_in; carries = amount; some = some },
       );
-      shows = ap (λ who. (effect pass.facts who (AddF into k v) s).words) none
-          ∙ ap (slice_set s.words (cell event_count into.number k.number))
-          (ap (λ word. word + v) stands ∙ sym (unwrapped (found + v) fits));
+      shows = ap (λ who. shown pass.facts (effect pass.facts who (AddF into k v) s)) none
+          ∙ shown-with_word pass.facts s laws.shape into.number k.number into_in k_in
+          (word_at s into.number k.number + v)
+          ∙ ap (slice_set (shown pass.facts s) (event_place into.number k.number))
+          (ap (λ word. word + v) is ∙ sym (unwrapped (found + v) fits));
     }
 
 -- a take that found nothing is the whole move; else an addition follows

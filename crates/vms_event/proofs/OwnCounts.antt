@@ -3,19 +3,20 @@ use Rattle.std.proofs.Common.{◌≡◌, ℕ, ◌<◌, ◌≤◌, ◌+◌, ◌%�
 use Rattle.std.proofs.Common.{slice_index, slice_set, Some, if◌then◌else◌, refl, ap, sym, ◌∙◌, subst, arith, eq-eqb}
 use Rattle.std.proofs.Common.{eqb-true, get_or-set_same, get_or-set_other, length-set}
 use Rattle.std.proofs.lemmas.Bool.{eqb-false}
-use Rattle.std.proofs.lemmas.Nat.{mod-mul-add, mul-add-lt}
-use Rattle.vms_history.specs.Common.{CpuId, EventId, cell, most_volume, owner_in}
+use Rattle.std.proofs.lemmas.Nat.{mod-mul-add}
+use Rattle.vms_history.specs.Common.{CpuId, CpuState, EventId, Shape, most_volume, owner_in}
+use Rattle.vms_event_core.specs.declared.states.EventState.{EventState}
 use Rattle.vms_event_core.specs.declared.steps.EventFacts.{EventFacts}
 use Rattle.vms_event_core.specs.declared.steps.EventStep.{EventStep}
 use Rattle.vms_event_core.specs.declared.steps.EventStep.TheVariants.{AddE}
-use Rattle.vms_event_core.specs.Common.{events, History, state_after, role, effect, spent, spent_by, IsEvent}
-use Rattle.vms_event_core.specs.Common.{event_count}
+use Rattle.vms_event_core.specs.Common.{events, History, state_after, role, effect, spent, spent_by, IsEvent, word_at}
 use Rattle.vms_event_core.proofs.Common.{beginnings-kept, owner_known}
-use Rattle.vms_event.specs.Common.{IsCpuPass, AreMadeFor}
+use Rattle.vms_event.specs.Common.{IsCpuPass, AreMadeFor, event_place}
 use Rattle.vms_event.specs.SharedWords.{shown}
 use Rattle.vms_seats.specs.Common.{Pass, Shared, IsFrom, MadeOne, MayStep}
 use Rattle.vms_seats.proofs.Common.{calls-live}
 use Rattle.vms_event.proofs.KnownSpending.{given, owner-same, spent-same}
+use Rattle.vms_event.proofs.ShownWords.{shown-word, shown-with_word}
 
 -- a number below 2^64 is not wrapped
 pub unwrapped : (x : ℕ) → x < 2 ^ 64 → x % 2 ^ 64 ≡ x
@@ -27,7 +28,7 @@ module _ (pass : Pass EventFacts EventStep) (cpu : CpuId) (volume : List ℕ) (m
   owns = mine.live.owner ∙ mine.owns
 
   abbrev place : ℕ
-  place = cell event_count cpu.number event.number
+  place = event_place cpu.number event.number
 
   pub count-may : slice_index volume event.number + n ≤ most_volume
       → MayStep events shown pass place (λ found. (found + n) % 2 ^ 64) (λ found. AddE event n)
@@ -38,9 +39,12 @@ module _ (pass : Pass EventFacts EventStep) (cpu : CpuId) (volume : List ℕ) (m
       let laws = beginnings-kept pass.facts [] h goes.legal in
       let known = owner_known pass.facts h pass.number goes.legal cpu owns_now in
       let bound = laws.bounds.words cpu.number event.number known event_in in
+      let s : EventState = state_after pass.facts h in
+      let is : word_at s cpu.number event.number ≡ found =
+      sym (shown-word pass.facts s cpu.number event.number known event_in) ∙ stands in
       let below = laws.bounds.below in
       let least = (given pass h goes).0 in
-      let fits : found + n < 2 ^ 64 = omega (arith, bound, below, stands, room) in
+      let fits : found + n < 2 ^ 64 = omega (arith, bound, below, is, room) in
       record {
         legal = (
           goes.legal,
@@ -52,20 +56,21 @@ module _ (pass : Pass EventFacts EventStep) (cpu : CpuId) (volume : List ℕ) (m
             affordable = omega (arith, spent_now, within, room);
           },
         );
-        shows = ap (λ who. (effect pass.facts who (AddE event n) (state_after pass.facts h)).words) owns_now
-            ∙ ap (slice_set (state_after pass.facts h).words place)
-            (ap (λ word. word + n) stands ∙ sym (unwrapped (found + n) fits));
+        shows = ap (λ who. shown pass.facts (effect pass.facts who (AddE event n) s)) owns_now
+            ∙ shown-with_word pass.facts s laws.shape cpu.number event.number known event_in
+            (word_at s cpu.number event.number + n)
+            ∙ ap (slice_set (shown pass.facts s) place)
+            (ap (λ word. word + n) is ∙ sym (unwrapped (found + n) fits));
       }
 
   -- the word that the pass counts in is one of the table's
-  pub own-place : (facts : EventFacts) (words : Shared EventFacts) → AreMadeFor facts words → IsFrom pass words
-      → place < words.table.words
-  own-place facts words for of =
-      let known : cpu.number < facts.layout.cpus = subst (λ (f : EventFacts). cpu.number < f.layout.cpus)
-      (of.facts ∙ for.same) (owner_known pass.facts pass.seen pass.number mine.live.legal cpu owns) in
+  pub own-place : (layout : Shape) (cpus : List CpuState) (words : Shared EventFacts) → AreMadeFor layout cpus words
+      → IsFrom pass words → place < words.table.words
+  own-place layout cpus words for of =
+      let known : cpu.number < words.facts.layout.cpus = subst (λ (f : EventFacts). cpu.number < f.layout.cpus)
+      of.facts (owner_known pass.facts pass.seen pass.number mine.live.legal cpu owns) in
       let count = for.count in
-      let shaped = for.base.shaped in
-      omega (arith, mul-add-lt cpu.number event_count event.number facts.layout.cpus known event_in, count, shaped)
+      omega (arith, count, known, event_in)
 
   -- the volumes after a count
   pub counted-covers : (new : Pass EventFacts EventStep) → MadeOne events new pass (AddE event n)

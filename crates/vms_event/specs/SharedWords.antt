@@ -1,16 +1,22 @@
--- How shared words show the event counters.
-use Rattle.std.specs.Prelude.{◌≡◌, ℕ, List, [], length, Option, refl}
-use Rattle.vms_history.specs.Common.{CpuId, Begins, Ends}
+-- How shared words show the event counters, in a row for each CPU that stands apart.
+use Rattle.std.specs.Prelude.{◌≡◌, ℕ, ◌*◌, List, [], Option, refl}
+use Rattle.vms_history.specs.Common.{CpuId, CpuState, Shape, Begins, Ends}
 use Rattle.vms_event_core.specs.declared.states.EventState.{EventState}
 use Rattle.vms_event_core.specs.declared.steps.EventFacts.{EventFacts}
 use Rattle.vms_event_core.specs.declared.steps.EventStep.{EventStep}
 use Rattle.vms_event_core.specs.declared.steps.EventStep.TheVariants.{LoadE, TakeE, Split, Join}
-use Rattle.vms_event_core.specs.Common.{IsBase, role}
+use Rattle.vms_event_core.specs.Common.{IsBase, role, event_count, word_at}
+use Rattle.vms_rows.specs.Common.{row_place, row_width}
+use Rattle.vms_rows.specs.Rows.{rows_of}
 use Rattle.vms_seats.specs.Common.{Shared}
 
--- each word stands for itself
+-- each word stands for itself, in the row of its CPU
 abbrev pub shown : EventFacts → EventState → List ℕ
-shown facts s = s.words
+shown facts s = rows_of event_count facts.layout.cpus (λ c k. word_at s c k)
+
+-- where the word of a CPU for an event stands
+abbrev pub event_place : ℕ → ℕ → ℕ
+event_place c k = row_place event_count c k
 
 -- a load and a take tell the number found
 abbrev pub told : EventStep → ℕ → EventStep
@@ -32,8 +38,9 @@ no_facts = record {
   base = record { words = [] };
 }
 
--- the words were made for these facts, and there is one for each CPU and event
-pub record AreMadeFor (facts : EventFacts) (words : Shared EventFacts) : Type 0 where
-  pub base : IsBase facts
-  pub same : words.facts ≡ facts
-  pub count : words.table.words ≡ length facts.base.words
+-- the words were made for this layout, whose CPUs are in these states, and there is a row for each CPU
+pub record AreMadeFor (layout : Shape) (cpus : List CpuState) (words : Shared EventFacts) : Type 0 where
+  pub base : IsBase words.facts
+  pub same_layout : words.facts.layout ≡ layout
+  pub same_cpus : words.facts.cpus ≡ cpus
+  pub count : words.table.words ≡ words.facts.layout.cpus * row_width event_count

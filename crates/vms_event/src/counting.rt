@@ -1,29 +1,19 @@
 ghost use Rattle.std.specs.Prelude.{◌≡◌, ◌+◌, ◌<◌, ◌≤◌, ◌↔◌, [], ◌∷◌, slice_index, slice_set, IsErr, OnOk, OnErr};
 ghost use Rattle.std.specs.Prelude.{IfErr};
-ghost use Rattle.vms_history.specs.Common.{most_volume, cell};
+ghost use Rattle.vms_history.specs.Common.{most_volume};
 ghost use Rattle.vms_event_core.specs.declared.steps.EventStep.TheVariants.{AddE};
-ghost use Rattle.vms_event_core.specs.Common.{events, IsEvent, event_count};
+ghost use Rattle.vms_event_core.specs.Common.{events, IsEvent};
 ghost use Rattle.vms_seats.specs.Common.{IsFrom, Made};
 
 use crate::passes::EventPass;
+use crate::places::place;
 use crate::tables::EventTable;
-use vms_base::{CpuId, EventId, Overflow};
+use vms_base::{EventId, Overflow};
 use vms_event_core::EventStep;
 use vms_seats::Works;
 
 /// What one CPU may count of an event over a run.
 const MOST_VOLUME: u64 = 1 << 48;
-
-/// How many events are counted.
-pub(crate) const EVENTS: u32 = 8;
-
-/// Where the word of a CPU for an event stands.
-#[inline]
-pub(crate) fn place(cpu: CpuId, event: EventId) -> usize
-    ensures { result ≡ cell event_count cpu.number event.number }
-{
-    cpu.number as usize * EVENTS as usize + event.number as usize
-}
 
 impl EventTable {
     /// Counts an event `n` times on the pass's CPU (`count_vm_events` of include/linux/vmstat.h).

@@ -5,8 +5,8 @@ ghost use Rattle.vms_event_core.specs.Common.{cpu_at, IsLowestOnline, IsFoldEven
 ghost use Rattle.vms_event.specs.FoldedCpus.{HasFoldedDead};
 ghost use Rattle.vms_seats.specs.Common.{IsFrom, Made};
 
-use crate::counting::{EVENTS, place};
 use crate::passes::EventControl;
+use crate::places::{EVENTS, place};
 use crate::summing::is_online;
 use crate::tables::EventTable;
 use vms_base::{CpuId, CpuState, EventId};
@@ -38,7 +38,7 @@ impl EventTable {
     fn lowest_online(&self) -> CpuId
         ensures { IsLowestOnline self.now.facts result.number }
     {
-        first_online(self.facts.cpus.as_slice())
+        first_online(self.cpus.as_slice())
     }
 }
 

@@ -1,12 +1,16 @@
+ghost use Rattle.std.specs.Prelude.{◌≢◌, ℕ, ◌+◌};
 ghost use Rattle.vms_event_core.specs.declared.steps.EventFacts.{EventFacts};
 ghost use Rattle.vms_event_core.specs.declared.steps.EventStep.{EventStep};
-ghost use Rattle.vms_event_core.specs.Common.{History, IsLegal, KeepsLaws};
+ghost use Rattle.vms_event_core.specs.Common.{History, IsEvent, IsLegal, KeepsLaws};
+ghost use Rattle.vms_event.specs.SharedWords.{event_place};
 ghost use Rattle.vms_history.specs.Common.{Extends};
+ghost use Rattle.vms_rows.specs.Common.{line_of};
 ghost use Rattle.vms_seats.specs.Common.{Pass};
 
 use crate::passes::{EventCaller, EventControl, EventPass};
 use crate::tables::EventMain;
 use vms_event_core::laws_are_kept;
+use vms_rows::rows_share_no_line;
 
 /// A pass of the event counters: one that owns a CPU, the control pass or the main pass.
 pub trait AnyEventPass {
@@ -51,4 +55,12 @@ pub fn totals_are_kept<P: AnyEventPass>(pass: &P)
 {
     pass.has_seen_legal();
     laws_are_kept();
+}
+
+/// Words of two CPUs stand in two lines of 64 bytes, in whichever word of a line the first word of the table stands.
+pub fn cpus_share_no_line()
+    ensures { (start c d k m : ℕ) → IsEvent k → IsEvent m → c ≢ d →
+        line_of (start + event_place c k) ≢ line_of (start + event_place d m) }
+{
+    rows_share_no_line();
 }

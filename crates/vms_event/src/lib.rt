@@ -7,9 +7,10 @@ mod counting;
 mod folding;
 mod laws;
 mod passes;
+mod places;
 mod summing;
 mod tables;
 
-pub use laws::{AnyEventPass, totals_are_kept};
+pub use laws::{AnyEventPass, cpus_share_no_line, totals_are_kept};
 pub use passes::{EventCaller, EventControl, EventPass};
 pub use tables::{EventHistory, EventMain, EventTable, SharedEvents};

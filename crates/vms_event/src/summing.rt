@@ -5,8 +5,8 @@ ghost use Rattle.vms_event_core.specs.declared.steps.EventStep.TheVariants.{Load
 ghost use Rattle.vms_event_core.specs.Common.{IsAllEvents, online_cpus, events, IsEvent};
 ghost use Rattle.vms_seats.specs.Common.{IsFrom, Made, MadeOne};
 
-use crate::counting::place;
 use crate::passes::EventCaller;
+use crate::places::place;
 use crate::tables::EventTable;
 use vms_base::{CpuId, CpuState, EventId};
 use vms_event_core::EventStep;
@@ -24,7 +24,7 @@ impl EventTable {
     {
         pass.is_live();
         let mut sum = 0;
-        for (number, state) in self.facts.cpus.as_slice().iter().enumerate() {
+        for (number, state) in self.cpus.as_slice().iter().enumerate() {
             let cpu = CpuId {
                 number: number as u32,
             };

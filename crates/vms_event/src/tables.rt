@@ -1,12 +1,15 @@
-ghost use Rattle.std.specs.Prelude.{◌≡◌, ℕ, false, [], length, IfOk};
-ghost use Rattle.vms_event_core.specs.Common.{IsBase, state_after, role};
-ghost use Rattle.vms_history.specs.Common.{lives_in};
+ghost use Rattle.std.specs.Prelude.{◌≡◌, ℕ, ◌≤◌, false, [], length, IfOk};
+ghost use Rattle.vms_event_core.specs.Common.{HasShape, IsBase, event_count, state_after, role, word_at};
+ghost use Rattle.vms_history.specs.Common.{lives_in, IsLayout};
+ghost use Rattle.vms_rows.specs.Rows.{rows_of};
 ghost use Rattle.vms_seats.specs.Common.{IsFrom};
 
+use crate::places::{EVENTS, width};
 use std::alloc::Global;
 use std::marker::Model;
 use vms_base::{CpuState, Layout, Memory, Row};
 use vms_event_core::{EventFacts, EventState, EventStep};
+use vms_rows::{Plain, fill_rows, push_row};
 use vms_seats::{Closing, History, Ledger, Main, Words};
 
 /// The words of the event counters that threads share, one for each CPU and event.
@@ -54,7 +57,8 @@ pub type EventHistory = History<SharedEvents>;
 /// begins with: the layout, the state of each CPU and the words at the start.
 #[derive(Drop)]
 pub struct EventTable {
-    pub(crate) facts: EventFacts,
+    pub(crate) layout: Layout,
+    pub(crate) cpus: Row<CpuState>,
     pub(crate) words: Words<SharedEvents>,
 }
 
@@ -68,7 +72,7 @@ impl Model for EventTable {
 
     ghost view = { λ t. t.words };
 
-    ghost invariant = { λ t. AreMadeFor t.facts t.words };
+    ghost invariant = { λ t. AreMadeFor t.layout t.cpus t.words };
 }
 
 impl EventTable {
@@ -92,8 +96,21 @@ impl EventTable {
                 words: Row::from_slice(alloc, base.words.as_slice())?,
             },
         };
-        let (words, main) = Words::make(alloc, &facts, facts.base.words.as_slice())?;
-        Ok((EventTable { facts, words }, main))
+        let first = opening_words(alloc, layout, base)?;
+        let (words, main) = Words::make(alloc, &facts, first.as_slice())?;
+        let EventFacts {
+            layout,
+            cpus,
+            base: _,
+        } = facts;
+        Ok((
+            EventTable {
+                layout,
+                cpus,
+                words,
+            },
+            main,
+        ))
     }
 
     /// The layout.
@@ -101,7 +118,7 @@ impl EventTable {
     pub fn layout(&self) -> &Layout
         ensures { result.now ≡ self.now.facts.layout }
     {
-        &self.facts.layout
+        &self.layout
     }
 
     /// Closes the words, once every other pass has ended, and writes what they are then. The history is what the main
@@ -113,19 +130,42 @@ impl EventTable {
         ensures history { result ≡ record { facts = self.facts; events = main.seen } }
         ensures state { into.new ≡ state_after self.facts main.seen }
     {
-        let EventTable { facts: _, words } = self;
+        let EventTable {
+            layout,
+            cpus: _,
+            words,
+        } = self;
         let closing = words.close(main);
-        write_words(&closing, &mut into.words);
+        write_words(&closing, &layout, &mut into.words);
         closing.leave()
     }
 }
 
+/// The words that show a base.
+fn opening_words(alloc: Global, layout: &Layout, base: &EventState) -> Result<Vec<u64>, Memory>
+    requires layout { IsLayout layout.now }
+    requires shaped { HasShape layout.now base.now }
+    ensures { IfOk result (λ words. words.items ≡ rows_of event_count layout.now.cpus (λ c k. word_at base.now c k)) }
+{
+    let cpus = layout.cpus() as usize;
+    let events = EVENTS as usize;
+    let counted = base.words.as_slice();
+    let mut words = Vec::with_capacity(alloc, cpus * width())?;
+    for cpu in 0..cpus {
+        let start = cpu * events;
+        push_row(&mut words, &counted[start..start + events])?;
+    }
+    Ok(words)
+}
+
 /// Writes the words as they are at the end.
-fn write_words(closing: &Closing<SharedEvents>, into: &mut Row<u64>)
-    requires { length into.old ≡ length (state_after closing.now.facts closing.now.events).words }
+fn write_words(closing: &Closing<SharedEvents>, layout: &Layout, into: &mut Row<u64>)
+    requires layout { IsLayout layout.now }
+    requires same { closing.now.facts.layout ≡ layout.now }
+    requires shaped { HasShape layout.now (state_after closing.now.facts closing.now.events) }
+    requires room { length into.old ≡ length (state_after closing.now.facts closing.now.events).words }
     ensures { into.new ≡ (state_after closing.now.facts closing.now.events).words }
 {
-    for place in 0..into.len() {
-        into.set(place, closing.word(place));
-    }
+    let cpus = layout.cpus() as usize;
+    fill_rows::<SharedEvents, u64, Plain>(closing, 0, width(), cpus, into, EVENTS as usize);
 }

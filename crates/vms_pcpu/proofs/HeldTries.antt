@@ -1,6 +1,6 @@
 -- A call that gave a counter's lock up has changed nothing: its pass is ready again, with the volumes that it had.
 use Rattle.std.proofs.Common.{◌≡◌, ◌≢◌, ◌≤◌, ◌+ℤ◌, ℕ, nat_eq, List, [], ◌∷◌, ◌++◌, ℤ, pos, unsigned_abs, refl, sym}
-use Rattle.std.proofs.Common.{Bool, false, ◌∙◌, subst}
+use Rattle.std.proofs.Common.{false, ◌∙◌, subst}
 use Rattle.vms_history.specs.Common.{CpuId, PcpuId}
 use Rattle.vms_history.proofs.Common.{if-either}
 use Rattle.vms_pcpu_core.specs.declared.steps.PcpuFacts.{PcpuFacts}

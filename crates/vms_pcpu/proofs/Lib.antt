@@ -1,4 +1,5 @@
 pub mod ShownNumbers
+pub mod RowLines
 pub mod CallSteps
 pub mod StepWords
 pub mod KnownSpending

@@ -16,7 +16,7 @@ use Rattle.vms_pcpu_core.specs.Common.{percpu, History, IsLegal, state_after, Ke
 use Rattle.vms_pcpu_core.specs.Common.{LockedState, IsPcpu, counters_of, count_at, local_at, held_at, role, effect}
 use Rattle.vms_pcpu_core.proofs.Common.{laws-kept, step_number-small}
 use Rattle.vms_pcpu.specs.SharedWords.{shown}
-use Rattle.vms_pcpu.specs.Common.{told, lock_word, lock_place, local_place}
+use Rattle.vms_pcpu.specs.Common.{told, count_place, lock_word, lock_place, local_place}
 use Rattle.vms_pcpu.proofs.CallSteps.{may-now}
 use Rattle.vms_pcpu.proofs.ShownNumbers.{shown-count, shown-lock, shown-local, shown-with_count, shown-with_held}
 use Rattle.vms_pcpu.proofs.ShownNumbers.{shown-with_local}
@@ -70,7 +70,7 @@ module _ (pass : Pass PcpuFacts PcpuStep) where
   })
 
   module _ (j : PcpuId) (j_in : IsPcpu facts j.number) where
-    pub count-load : MayStep percpu shown pass j.number (λ n. n) (told (LoadC j (pos 0)))
+    pub count-load : MayStep percpu shown pass (count_place j.number) (λ n. n) (told (LoadC j (pos 0)))
     count-load h found goes fits stands =
         let s : LockedState = state_after facts h in
         let kept : KeepsLaws facts h = laws h goes in
@@ -86,7 +86,7 @@ module _ (pass : Pass PcpuFacts PcpuStep) where
                   ∙ ap signed_of_word (sym is);
             },
           );
-          shows = sym (ap (set (shown facts s) j.number) (sym stands) ∙ set-get_or (shown facts s) j.number 0);
+          shows = sym (ap (set (shown facts s) (count_place j.number)) (sym stands) ∙ set-get_or (shown facts s) (count_place j.number) 0);
         }
 
     pub local-load : (c : CpuId) → IsCpu facts.layout c.number
@@ -112,7 +112,7 @@ module _ (pass : Pass PcpuFacts PcpuStep) where
           shows = sym (ap (set (shown facts s) place) (sym stands) ∙ set-get_or (shown facts s) place 0);
         }
 
-    pub lock-try : MayStep percpu shown pass (lock_place width j.number) (λ n. if n == 0 then 1 else n)
+    pub lock-try : MayStep percpu shown pass (lock_place j.number) (λ n. if n == 0 then 1 else n)
         (told (Won j))
     lock-try h found goes fits stands = by (held_at s j.number) refl
       where
@@ -120,7 +120,7 @@ module _ (pass : Pass PcpuFacts PcpuStep) where
         s = state_after facts h
 
         place : ℕ
-        place = lock_place width j.number
+        place = lock_place j.number
 
         is : found ≡ lock_word (held_at s j.number)
         is = sym stands ∙ shown-lock facts s (laws h goes).shape j.number j_in
@@ -142,7 +142,7 @@ module _ (pass : Pass PcpuFacts PcpuStep) where
             })
 
     pub lock-release : MayMake facts p pass.seen (Unlock j ∷ [])
-        → MayStep percpu shown pass (lock_place width j.number) (λ n. 0) (told (Unlock j))
+        → MayStep percpu shown pass (lock_place j.number) (λ n. 0) (told (Unlock j))
     lock-release may h found goes fits stands = record {
       legal = may-now facts p pass.seen h (Unlock j) may goes tt;
       shows = shown-with_held facts (state_after facts h) (laws h goes).shape j.number j_in false;
@@ -166,7 +166,7 @@ module _ (pass : Pass PcpuFacts PcpuStep) where
         }
 
     pub count-add : (amount : ℤ) → MayMake facts p pass.seen (AddC j amount ∷ [])
-        → MayStep percpu shown pass j.number (λ n. (n + word_of amount) % 2 ^ 64) (told (AddC j amount))
+        → MayStep percpu shown pass (count_place j.number) (λ n. (n + word_of amount) % 2 ^ 64) (told (AddC j amount))
     count-add amount may h found goes fits stands =
         let s : LockedState = state_after facts h in
         let kept : KeepsLaws facts h = laws h goes in
@@ -177,7 +177,7 @@ module _ (pass : Pass PcpuFacts PcpuStep) where
         record {
           legal = legal;
           shows = shown-with_count facts s kept.shape j.number j_in (count_at s.numbers j.number +ℤ amount)
-              ∙ ap (set (shown facts s) j.number)
+              ∙ ap (set (shown facts s) (count_place j.number))
               (sym (word-sum (count_at s.numbers j.number) amount (kept.numbers j.number j_in).count
               (step_number-small facts (event p (AddC j amount)) h legal))
               ∙ ap (λ n. (n + word_of amount) % 2 ^ 64) (sym is));

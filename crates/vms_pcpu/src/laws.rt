@@ -1,7 +1,10 @@
+ghost use Rattle.std.specs.Prelude.{◌≢◌, ℕ, ◌+◌, ◌<◌, ◌⊎◌, ◌≡◌};
 ghost use Rattle.vms_history.specs.Common.{Extends};
 ghost use Rattle.vms_pcpu_core.specs.declared.steps.PcpuFacts.{PcpuFacts};
 ghost use Rattle.vms_pcpu_core.specs.declared.steps.PcpuStep.{PcpuStep};
 ghost use Rattle.vms_pcpu_core.specs.Common.{History, IsLegal, KeepsLaws};
+ghost use Rattle.vms_pcpu.specs.SharedWords.{count_place, local_place, lock_place};
+ghost use Rattle.vms_rows.specs.Common.{line_of};
 ghost use Rattle.vms_seats.specs.Common.{Pass};
 
 use crate::passes::{PcpuControl, PcpuPass};
@@ -53,3 +56,15 @@ pub fn totals_are_kept<P: AnyPcpuPass>(pass: &P)
     pass.has_seen_legal();
     laws_are_kept();
 }
+
+/// In whichever word of a line of 64 bytes the first word of a table of so many counters stands: local parts of two
+/// CPUs stand in two lines, the shared part or the lock of a counter stands in no line with those of another counter,
+/// and neither with a local part.
+pub fn cpus_share_no_line()
+    ensures cpus { (counters start c d i j : ℕ) → i < counters → j < counters → c ≢ d →
+        line_of (start + local_place counters c i) ≢ line_of (start + local_place counters d j) }
+    ensures pairs { (start i j p q : ℕ) → (p ≡ count_place i) ⊎ (p ≡ lock_place i) →
+        (q ≡ count_place j) ⊎ (q ≡ lock_place j) → i ≢ j → line_of (start + p) ≢ line_of (start + q) }
+    ensures apart { (counters start c i j p : ℕ) → (p ≡ count_place i) ⊎ (p ≡ lock_place i) →
+        i < counters → line_of (start + p) ≢ line_of (start + local_place counters c j) }
+{}

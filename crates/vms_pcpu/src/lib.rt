@@ -15,7 +15,7 @@ mod reading;
 mod stepping;
 mod tables;
 
-pub use laws::{AnyPcpuPass, totals_are_kept};
+pub use laws::{AnyPcpuPass, cpus_share_no_line, totals_are_kept};
 pub use ledgers::SharedPcpu;
 pub use locking::Held;
 pub use passes::{PcpuControl, PcpuPass};

@@ -2,27 +2,43 @@ ghost use Rattle.std.specs.Prelude.{◌≡◌, ◌<◌};
 ghost use Rattle.vms_history.specs.Common.{IsCpu};
 ghost use Rattle.vms_pcpu_core.specs.Common.{IsPcpu, counters_of};
 ghost use Rattle.vms_pcpu.specs.SharedWords as words;
+ghost use Rattle.vms_rows.specs.Rows as rows;
 
 use crate::tables::PcpuTable;
 use vms_base::{CpuId, PcpuId};
+use vms_rows::row_width;
 
-/// Where the word of a counter's shared part stands.
+/// How many words the row of a counter takes, which has its shared part and its lock.
 #[inline]
-pub(crate) fn count_place(counter: PcpuId) -> usize
-    ensures { result ≡ counter.number }
+pub(crate) fn pair_width() -> usize
+    ensures { result ≡ rows.row_width 2 }
 {
-    counter.number as usize
+    row_width(2)
 }
 
 impl PcpuTable {
+    /// Where the word of a counter's shared part stands.
+    #[inline]
+    pub(crate) fn count_place(&self, counter: PcpuId) -> usize
+        requires { IsPcpu self.now.facts counter.number }
+        ensures place { result ≡ words.count_place counter.number }
+        ensures within { result < self.now.table.words }
+    {
+        let row = counter.number as usize;
+        prove!(row < self.facts.base.batch.len());
+        row * pair_width()
+    }
+
     /// Where the word of a counter's lock stands.
     #[inline]
     pub(crate) fn lock_place(&self, counter: PcpuId) -> usize
         requires { IsPcpu self.now.facts counter.number }
-        ensures place { result ≡ words.lock_place (counters_of self.now.facts.base) counter.number }
+        ensures place { result ≡ words.lock_place counter.number }
         ensures within { result < self.now.table.words }
     {
-        self.facts.base.batch.len() + counter.number as usize
+        let row = counter.number as usize;
+        prove!(row < self.facts.base.batch.len());
+        row * pair_width() + 1
     }
 
     /// Where the word of a CPU's local part stands.
@@ -34,6 +50,7 @@ impl PcpuTable {
         ensures within { result < self.now.table.words }
     {
         let counters = self.facts.base.batch.len();
-        2 * counters + (cpu.number as usize * counters + counter.number as usize)
+        counters * pair_width()
+            + (cpu.number as usize * row_width(counters) + counter.number as usize)
     }
 }

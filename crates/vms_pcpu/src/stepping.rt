@@ -6,7 +6,6 @@ ghost use Rattle.vms_pcpu_core.specs.Common.{most_batch, percpu, most_number, Ma
 ghost use Rattle.vms_seats.specs.Common.{IsFrom, MadeOne};
 
 use crate::ledgers::SharedPcpu;
-use crate::places::count_place;
 use crate::tables::PcpuTable;
 use vms_base::{CpuId, PcpuId, decode, encode};
 use vms_pcpu_core::PcpuStep;
@@ -23,7 +22,7 @@ impl PcpuTable {
         ensures bound { unsigned_abs result ≤ most_number }
     {
         let plan = PcpuStep::LoadC(counter, 0);
-        decode(worker.load_at(&self.words, count_place(counter), &plan))
+        decode(worker.load_at(&self.words, self.count_place(counter), &plan))
     }
 
     /// Loads a CPU's local part.
@@ -96,7 +95,12 @@ impl PcpuTable {
         ensures { MadeOne percpu worker.new worker.old (AddC counter amount) }
     {
         let plan = PcpuStep::AddC(counter, amount);
-        worker.add_at(&self.words, count_place(counter), encode(amount), &plan);
+        worker.add_at(
+            &self.words,
+            self.count_place(counter),
+            encode(amount),
+            &plan,
+        );
     }
 
     /// Adds to the local part of the CPU that the pass owns.

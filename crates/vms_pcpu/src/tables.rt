@@ -1,16 +1,19 @@
-ghost use Rattle.std.specs.Prelude.{◌≡◌, ℕ, ◌+◌, ◌≤◌, ◌<◌, ◌++◌, ◌^◌, pos, false, [], length, map, IfOk, OnOk};
-ghost use Rattle.std.specs.Prelude.{slice_index, slice_index_or, count_by};
-ghost use Rattle.vms_history.specs.Common.{is_present as tells_present, word_of, signed_of_word, lives_in};
-ghost use Rattle.vms_pcpu_core.specs.Common.{IsBase, state_after, numbers_after, role};
+ghost use Rattle.std.specs.Prelude.{◌≡◌, ℕ, ◌*◌, ◌<◌, ◌^◌, pos, false, [], length, IfOk, OnOk, slice_index_or};
+ghost use Rattle.std.specs.Prelude.{count_by};
+ghost use Rattle.vms_history.specs.Common.{is_present as tells_present, lives_in};
+ghost use Rattle.vms_pcpu_core.specs.Common.{IsBase, IsLegal, counters_of, numbers_after, role};
 ghost use Rattle.vms_pcpu_core.specs.States.{unlocked};
-ghost use Rattle.vms_pcpu.specs.SharedWords.{shown};
+ghost use Rattle.vms_pcpu.specs.SharedWords.{shown, pair_word, word_count};
+ghost use Rattle.vms_rows.specs.Rows.{rows_of};
 ghost use Rattle.vms_seats.specs.Common.{IsFrom};
 
 use crate::ledgers::SharedPcpu;
+use crate::places::pair_width;
 use std::alloc::Global;
 use std::marker::Model;
-use vms_base::{CpuState, Layout, Memory, Row, decode, encode};
+use vms_base::{CpuState, Layout, Memory, Row, encode};
 use vms_pcpu_core::{PcpuFacts, PcpuState};
+use vms_rows::{Signed, fill_rows, push_row, push_signed_row, row_width};
 use vms_seats::{Closing, History, Main, Words};
 
 /// The main pass of the percpu counters, which begins and ends the others.
@@ -99,7 +102,7 @@ impl PcpuTable {
             words,
         } = self;
         let PcpuFacts {
-            layout: _,
+            layout,
             cpus: _,
             base,
         } = facts;
@@ -109,8 +112,13 @@ impl PcpuTable {
             mut local,
         } = base;
         let closing = words.close(main);
-        fill(&closing, 0, &mut count);
-        fill(&closing, 2 * batch.len(), &mut local);
+        fill_numbers(
+            &closing,
+            batch.len(),
+            layout.cpus() as usize,
+            &mut count,
+            &mut local,
+        );
         *into = PcpuState {
             batch,
             count,
@@ -142,35 +150,48 @@ fn opening_words(alloc: Global, facts: &PcpuFacts) -> Result<Vec<u64>, Memory>
     requires { IsBase facts.now }
     ensures { IfOk result (λ words. words.items ≡ shown facts.now (unlocked facts.now)) }
 {
-    let base = &facts.base;
+    let counters = facts.base.batch.len();
+    let local = facts.base.local.as_slice();
     let mut words = Vec::new(alloc);
-    push_numbers(&mut words, base.count.as_slice())?;
-    words.resize(2 * base.batch.len(), 0)?;
-    push_numbers(&mut words, base.local.as_slice())?;
-    words.push(0)?;
+    push_pairs(&mut words, facts.base.count.as_slice())?;
+    for cpu in 0..facts.layout.cpus() as usize {
+        let start = cpu * counters;
+        push_signed_row(&mut words, &local[start..start + counters])?;
+    }
     Ok(words)
 }
 
-/// Appends the words of numbers.
-fn push_numbers(words: &mut Vec<u64>, numbers: &[i64]) -> Result<(), Memory>
-    ensures { OnOk result (words.new.items ≡ words.old.items ++ map word_of numbers.now) }
+/// Appends a row for each counter, whose lock is free.
+fn push_pairs(words: &mut Vec<u64>, counts: &[i64]) -> Result<(), Memory>
+    requires { words.old.items ≡ [] }
+    ensures { OnOk result (words.new.items ≡ rows_of 2 (length counts.now)
+        (λ j k. pair_word (slice_index_or counts.now j (pos 0)) false k)) }
 {
-    for number in numbers {
-        words.push(encode(*number))?;
+    for count in counts {
+        push_row(words, &[encode(*count), 0])?;
     }
     Ok(())
 }
 
-/// Fills a row with the numbers in the words that begin at a place.
-fn fill(closing: &Closing<SharedPcpu>, start: usize, row: &mut Row<i64>)
-    requires within { start + length row.old
-        < length (shown closing.now.facts (state_after closing.now.facts closing.now.events)) }
-    requires fits { start + length row.old < 2 ^ 64 }
-    ensures len { length row.new ≡ length row.old }
-    ensures each { (n : ℕ) → n < length row.old → slice_index_or row.new n (pos 0) ≡ signed_of_word
-        (slice_index (shown closing.now.facts (state_after closing.now.facts closing.now.events)) (start + n)) }
+/// Fills the shared parts and the local parts with the numbers in the words.
+fn fill_numbers(
+    closing: &Closing<SharedPcpu>,
+    counters: usize,
+    cpus: usize,
+    count: &mut Row<i64>,
+    local: &mut Row<i64>,
+)
+    requires legal { IsLegal closing.now.facts closing.now.events }
+    requires same { (counters_of closing.now.facts.base ≡ counters) × (closing.now.facts.layout.cpus ≡ cpus) }
+    requires small { word_count closing.now.facts < 2 ^ 64 }
+    requires count { length count.old ≡ counters }
+    requires local { length local.old ≡ cpus * counters }
+    ensures count { count.new ≡ (numbers_after closing.now.facts closing.now.events).count }
+    ensures local { local.new ≡ (numbers_after closing.now.facts closing.now.events).local }
 {
-    for n in 0..row.len() {
-        row.set(n, decode(closing.word(start + n)));
-    }
+    let pair = pair_width();
+    let start = counters * pair;
+    let width = row_width(counters);
+    fill_rows::<SharedPcpu, i64, Signed>(closing, 0, pair, counters, count, 1);
+    fill_rows::<SharedPcpu, i64, Signed>(closing, start, width, cpus, local, counters);
 }

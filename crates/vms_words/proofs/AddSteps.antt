@@ -4,10 +4,10 @@ use Rattle.std.proofs.Common.{negsuc, ◌+ℤ◌, unsigned_abs, refl, sym, ap, �
 use Rattle.std.proofs.Common.{get_or-set_other, SFits, w64, to_z, of_z}
 use Rattle.std.specs.List.{range_with_len}
 use Rattle.std.proofs.lemmas.Int.{ints, to_z-of_z}
-use Rattle.vms_calls.specs.Common.{CounterId, CpuId, ItemId, word_of, cell, own, GoesOnWithout, owner_in, Works, State}
-use Rattle.vms_calls.specs.Common.{Facts, Step, AddG, AddS, size_limit, HasShape, value_at, system_at, with_value}
-use Rattle.vms_calls.specs.Common.{with_system, AddsToPlace, AddsToSystem, Meets, carried, carried_of_item, pages}
-use Rattle.vms_calls.specs.Common.{History, state_after, role, effect}
+use Rattle.vms_calls.specs.Common.{CounterId, CpuId, ItemId, word_of, cell, own, GoesOnWithout, owner_in, Shape, Works}
+use Rattle.vms_calls.specs.Common.{State, Facts, Step, AddG, AddS, size_limit, HasShape, value_at, system_at}
+use Rattle.vms_calls.specs.Common.{with_value, with_system, AddsToPlace, AddsToSystem, Meets, carried, carried_of_item}
+use Rattle.vms_calls.specs.Common.{pages, History, state_after, role, effect}
 use Rattle.vms_base.specs.Groups.{word_of_bytes}
 use Rattle.vms_seats.specs.Common.{Pass, Shared, IsFrom, MayStep}
 use Rattle.vms_core.proofs.Common.{laws-kept}
@@ -141,8 +141,8 @@ system-add pass k amount adds =
     carries h goes = ap (carried_of_item pass.facts.layout k.number) goes.own_same ∙ adds.carries
 
 -- it may be made at the place of the word among the words of a table, by the bits of the amount
-module _ (facts : Facts) (blocks : Blocks) (words table : Shared Facts) (pass : Pass Facts Step)
-    (are : AreMadeFor facts blocks words) (is : words ≡ table) (of : IsFrom pass table) where
+module _ (layout : Shape) (blocks : Blocks) (words table : Shared Facts) (pass : Pass Facts Step)
+    (are : AreMadeFor layout blocks words) (is : words ≡ table) (of : IsFrom pass table) where
   pub add-at : (spot : Spot) (place : ℕ) → place ≡ place_in blocks spot → (amount : ℤ) → SFits w64 amount
       → (step : ℤ → Step) (encoded : ℕ) → encoded ≡ word_of (to_z w64 (of_z w64 amount))
       → MayAdd pass spot amount (step amount)
@@ -150,6 +150,6 @@ module _ (facts : Facts) (blocks : Blocks) (words table : Shared Facts) (pass : 
   add-at spot place at amount fits step encoded coded may =
       subst (λ a. MayStep pages shown pass place (λ n. (n + encoded) % 2 ^ 64) (λ n. step a))
       (sym (to_z-of_z w64 amount fits))
-      (may-at facts blocks words table pass are is of spot place at (λ n. (n + encoded) % 2 ^ 64) (λ n. step amount)
+      (may-at layout blocks words table pass are is of spot place at (λ n. (n + encoded) % 2 ^ 64) (λ n. step amount)
       (subst (λ word. MayStep pages shown pass (place_in (blocks_of pass.facts.layout) spot)
       (λ n. (n + word) % 2 ^ 64) (λ n. step amount)) (sym coded) may))

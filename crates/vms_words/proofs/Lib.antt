@@ -11,6 +11,9 @@ pub mod Numbers
 pub mod InTables
 pub mod OwnGroups
 pub mod Filled
+pub mod GroupRows
+pub mod RowLines
+pub mod OpeningWords
 pub mod LastStates
 pub mod AddSteps
 pub mod GroupChanges

@@ -12,22 +12,21 @@ use Rattle.vms_words.proofs.Places.{place-lt}
 further : (g row j : ℕ) → g + (row + 0) + j ≡ g + (row + j)
 further g row j = omega arith
 
--- the groups of a CPU begin before the thresholds
+-- the groups of a CPU begin before the end
 pub first-fits : (shape : Shape) → IsLayout shape → (b : Blocks) → b ≡ blocks_of shape → (c : CpuId)
-    → IsCpu shape c.number → b.groups + cell b.groups_each c.number 0 < 2 ^ 63
+    → IsCpu shape c.number → b.rows + cell b.width c.number 0 < 2 ^ 63
 first-fits shape layout b laid c known =
     let are = are_blocks shape b laid in
-    let rows : c.number * b.groups_each ≤ shape.cpus * b.groups_each =
-    mul-le-mul_right b.groups_each (omega (arith, known)) in
-    omega (arith, rows, are.thresholds, are.marks, are.cpus, are.acknowledgements, are.end, end-most shape layout b are)
+    let above : c.number * b.width ≤ shape.cpus * b.width = mul-le-mul_right b.width (omega (arith, known)) in
+    omega (arith, above, are.end, end-most shape layout b are)
 
 module _ (shape : Shape) (b : Blocks) (laid : b ≡ blocks_of shape) (c : CpuId) (j : GroupId) (first : ℕ)
     (at : first ≡ groups_start shape c.number) where
   -- the word of a group stands as far behind that of the first group as its number says
   pub group-at : first + j.number ≡ place_in b (Group c j)
   group-at =
-      ap (λ n. n + j.number) (subst (λ (x : Blocks). first ≡ x.groups + cell x.groups_each c.number 0) (sym laid) at)
-      ∙ further b.groups (c.number * b.groups_each) j.number
+      ap (λ n. n + j.number) (subst (λ (x : Blocks). first ≡ x.rows + cell x.width c.number 0) (sym laid) at)
+      ∙ further b.rows (c.number * b.width) j.number
 
   -- and so it is one of the words, and its number small
   module _ (layout : IsLayout shape) (known : IsCpu shape c.number) (group : IsGroup shape j.number) where

@@ -6,6 +6,7 @@ use Rattle.vms_calls.specs.Common.{threshold_at, threshold_sets_at, mark_at, mar
 use Rattle.vms_base.specs.Groups.{word_of_bytes}
 use Rattle.vms_words.specs.declared.spots.Spot.{Spot}
 use Rattle.vms_words.specs.declared.spots.Spot.TheVariants.{Value, System, Group, Threshold, Mark, Cpu, Acknowledgement}
+use Rattle.vms_words.specs.declared.spots.Blocks.{Blocks}
 use Rattle.vms_words.specs.Spots.{blocks_of, spot_in}
 
 -- the eight differentials of a CPU in group j
@@ -42,10 +43,18 @@ spot_word s (Mark g) = packed_mark (mark_at s g.number) (mark_sets_at s g.number
 spot_word s (Cpu c) = cpu_word (cpu_at s c.number)
 spot_word s (Acknowledgement c g) = acknowledgement_word (acknowledged_at s c.number g.number)
 
+-- the word that shows one number of a state, or 0 between rows
+abbrev pub word_by : State → Option Spot → ℕ
+word_by s None = 0
+word_by s (Some spot) = spot_word s spot
+
+-- the first words that show a state
+abbrev pub first_words : State → Blocks → ℕ → List ℕ
+first_words s b count = map (λ n. word_by s (spot_in b n)) (range_with_len 0 count)
+
 -- the words that show a state
 unfoldable pub shown : Facts → State → List ℕ
-shown facts s =
-    map (λ n. spot_word s (spot_in (blocks_of facts.layout) n)) (range_with_len 0 (blocks_of facts.layout).end)
+shown facts s = first_words s (blocks_of facts.layout) (blocks_of facts.layout).end
 
 -- facts of no table
 abbrev pub no_facts : Facts

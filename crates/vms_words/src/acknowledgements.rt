@@ -27,7 +27,7 @@ impl PageTable {
         };
         let place = self
             .blocks
-            .place_of(&self.facts.layout, Spot::Acknowledgement(cpu, zone));
+            .place_of(&self.layout, Spot::Acknowledgement(cpu, zone));
         let plan = Step::SetA(zone, number);
         pass.swap_at(
             &self.words,
@@ -53,12 +53,12 @@ impl PageTable {
     {
         let place = self
             .blocks
-            .place_of(&self.facts.layout, Spot::Acknowledgement(cpu, zone));
-        let newest = pass.kept.sets_at(&self.facts.layout, cpu, zone);
+            .place_of(&self.layout, Spot::Acknowledgement(cpu, zone));
+        let newest = pass.kept.sets_at(&self.layout, cpu, zone);
         let plan = Step::LoadA(cpu, zone, None);
         let found = acknowledged_of(pass.worker.load_at(&self.words, place, &plan));
         pass.kept
-            .keep_found(&self.facts.layout, cpu, zone, is_number(found, newest));
+            .keep_found(&self.layout, cpu, zone, is_number(found, newest));
         found
     }
 }

@@ -17,9 +17,7 @@ impl PageTable {
         ensures made { MadeOne pages (P.pass pass.new) (P.pass pass.old) (AddG counter amount) }
         ensures volume { P.volume pass.new ≡ P.volume pass.old }
     {
-        let place = self
-            .blocks
-            .place_of(&self.facts.layout, Spot::Value(counter));
+        let place = self.blocks.place_of(&self.layout, Spot::Value(counter));
         let plan = Step::AddG(counter, amount);
         pass.add_at(&self.words, place, encode(amount), &plan);
     }
@@ -32,7 +30,7 @@ impl PageTable {
         ensures made { MadeOne pages (P.pass pass.new) (P.pass pass.old) (AddS item amount) }
         ensures volume { P.volume pass.new ≡ P.volume pass.old }
     {
-        let place = self.blocks.place_of(&self.facts.layout, Spot::System(item));
+        let place = self.blocks.place_of(&self.layout, Spot::System(item));
         let plan = Step::AddS(item, amount);
         pass.add_at(&self.words, place, encode(amount), &plan);
     }

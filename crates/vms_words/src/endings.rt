@@ -1,35 +1,14 @@
 ghost use Rattle.std.specs.Prelude.{◌≡◌, ℕ, ◌+◌, ◌/◌, ◌%◌, ◌*◌, ◌^◌, ◌≤◌, ◌<◌, pos, length, slice_index};
 ghost use Rattle.std.specs.Prelude.{slice_index_or};
 ghost use Rattle.vms_base.specs.Groups.{bytes_of_word};
-ghost use Rattle.vms_calls.specs.Common.{state_after};
+ghost use Rattle.vms_calls.specs.Common.{cell, state_after};
 ghost use Rattle.vms_words.specs.Shown.{shown};
 
 use crate::SharedPages;
 use crate::packed::{cpu_of, mark_of, threshold_of};
-use vms_base::{CpuState, Row, decode, unpack};
+use vms_base::{CpuState, Diffs, Row, unpack};
+use vms_rows::Reads;
 use vms_seats::Closing;
-
-// How an entry of a row of a state is read from a word.
-pub(crate) trait Reads<T> {
-    ghost read: { ℕ → T };
-
-    fn of(word: u64) -> T
-        ensures { result ≡ read word };
-}
-
-/// A global value, or a system-wide one.
-pub(crate) struct Values;
-
-impl Reads<i64> for Values {
-    ghost use Rattle.vms_calls.specs.Common.{signed_of_word};
-
-    ghost read = { signed_of_word };
-
-    #[inline]
-    fn of(word: u64) -> i64 {
-        decode(word)
-    }
-}
 
 /// A threshold without the number of its sets.
 pub(crate) struct Thresholds;
@@ -73,69 +52,56 @@ impl Reads<CpuState> for Cpus {
     }
 }
 
-/// No set, as the next phase begins.
-pub(crate) struct Unset;
-
-impl Reads<u32> for Unset {
-    ghost read = { λ word. 0 };
-
-    #[inline]
-    fn of(_word: u64) -> u32 {
-        0
-    }
-}
-
-/// No acknowledgement, as the next phase begins.
-pub(crate) struct Unacknowledged;
-
-impl Reads<Option<u32>> for Unacknowledged {
-    ghost use Rattle.std.specs.Prelude.{None};
-
-    ghost read = { λ word. None };
-
-    #[inline]
-    fn of(_word: u64) -> Option<u32> {
-        None
-    }
-}
-
-/// Fills a row from the words that begin at a place.
-pub(crate) fn fill<T: Copy, R: Reads<T>>(
-    closing: &Closing<SharedPages>,
-    start: usize,
-    row: &mut Row<T>,
-)
-    requires within { start + length row.old
-        ≤ length (shown closing.now.facts (state_after closing.now.facts closing.now.events)) }
-    requires fits { start + length row.old < 2 ^ 63 }
+/// Puts one value into each entry of a row.
+pub(crate) fn clear<T: Copy>(row: &mut Row<T>, value: T)
     ensures len { length row.new ≡ length row.old }
-    ensures each { (n : ℕ) → n < length row.old → (default : T) → slice_index_or row.new n default
-        ≡ R.read (slice_index
-        (shown closing.now.facts (state_after closing.now.facts closing.now.events)) (start + n)) }
+    ensures each { (n : ℕ) → n < length row.old → (default : T) → slice_index_or row.new n default ≡ value }
 {
     for n in 0..row.len() {
-        row.set(n, R::of(closing.word(start + n)));
+        row.set(n, value);
     }
 }
 
-/// Fills the differentials from the words of groups that begin at a place, eight from each word.
+/// Fills the differentials from the words of so many groups for each CPU, which begin at `start` for CPU 0, and
+/// `width` words further on for each next one. Each word is unpacked once.
 pub(crate) fn fill_groups(
     closing: &Closing<SharedPages>,
     start: usize,
+    width: usize,
+    cpus: usize,
     groups: usize,
     row: &mut Row<i64>,
 )
-    requires whole { length row.old ≡ 8 * groups }
-    requires within { start + groups
+    requires whole { length row.old ≡ 8 * (cpus * groups) }
+    requires within { (c : ℕ) → c < cpus → start + cell width c groups
         ≤ length (shown closing.now.facts (state_after closing.now.facts closing.now.events)) }
-    requires fits { start + groups < 2 ^ 32 }
+    requires fits { (length (shown closing.now.facts (state_after closing.now.facts closing.now.events)) < 2 ^ 32)
+        × (length row.old < 2 ^ 32) }
     ensures len { length row.new ≡ length row.old }
-    ensures each { (n : ℕ) → n < length row.old → slice_index_or row.new n (pos 0)
+    ensures each { (n i : ℕ) → n < cpus * groups → i < 8 → slice_index_or row.new (8 * n + i) (pos 0)
         ≡ slice_index_or (bytes_of_word (slice_index
-        (shown closing.now.facts (state_after closing.now.facts closing.now.events)) (start + n / 8))) (n % 8) (pos 0) }
+        (shown closing.now.facts (state_after closing.now.facts closing.now.events))
+        (start + cell width (n / groups) (n % groups)))) i (pos 0) }
 {
-    for n in 0..row.len() {
-        let diffs = unpack(closing.word(start + n / 8));
-        row.set(n, diffs.values[n % 8]);
+    for cpu in 0..cpus {
+        for group in 0..groups {
+            let diffs = unpack(closing.word(start + cpu * width + group));
+            put_list(row, 8 * (cpu * groups + group), &diffs);
+        }
+    }
+}
+
+/// Puts the eight differentials of a group where they begin in a row.
+fn put_list(row: &mut Row<i64>, at: usize, diffs: &Diffs)
+    requires { at + 8 ≤ length row.old }
+    ensures len { length row.new ≡ length row.old }
+    ensures each { (i : ℕ) → i < 8 → slice_index_or row.new (at + i) (pos 0)
+        ≡ slice_index_or diffs.now.values i (pos 0) }
+    ensures before { (i : ℕ) → i < at → slice_index_or row.new i (pos 0) ≡ slice_index_or row.old i (pos 0) }
+{
+    let entries = row.len();
+    prove!(at < entries);
+    for i in 0..8 {
+        row.set(at + i, diffs.values[i]);
     }
 }

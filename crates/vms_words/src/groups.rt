@@ -19,9 +19,7 @@ impl PageTable {
         ensures made { MadeOne pages (P.pass pass.new) (P.pass pass.old) (LoadD cpu group result) }
         ensures volume { P.volume pass.new ≡ P.volume pass.old }
     {
-        let place = self
-            .blocks
-            .place_of(&self.facts.layout, Spot::Group(cpu, group));
+        let place = self.blocks.place_of(&self.layout, Spot::Group(cpu, group));
         let plan = Step::LoadD(cpu, group, Diffs::zeros());
         PackedDiffs::of_word(pass.load_at(&self.words, place, &plan))
     }
@@ -35,9 +33,7 @@ impl PageTable {
         ensures made { MadeOne pages (P.pass pass.new) (P.pass pass.old) (Take cpu group result) }
         ensures volume { P.volume pass.new ≡ P.volume pass.old }
     {
-        let place = self
-            .blocks
-            .place_of(&self.facts.layout, Spot::Group(cpu, group));
+        let place = self.blocks.place_of(&self.layout, Spot::Group(cpu, group));
         let plan = Step::Take(cpu, group, Diffs::zeros());
         PackedDiffs::of_word(pass.swap_at(&self.words, place, 0, &plan))
     }

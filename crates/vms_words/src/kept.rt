@@ -59,7 +59,7 @@ impl Settings {
         requires zone { IsZone layout.now zone.number }
         ensures { result ≡ kept_peak layout.now self.now cpu.number zone.number }
     {
-        let at = cell_from(0, layout.zones().len(), cpu, zone.number);
+        let at = cell_from(0, layout.zones().len(), cpu, zone.number as usize);
         self.peaks.get(at)
     }
 
@@ -72,7 +72,7 @@ impl Settings {
         requires place { IsPlace layout.now place.number }
         ensures { result ≡ kept_sets layout.now self.now cpu.number place.number }
     {
-        let at = cell_from(0, layout.places() as usize, cpu, place.number);
+        let at = cell_from(0, layout.places() as usize, cpu, place.number as usize);
         self.threshold_sets.get(at)
     }
 
@@ -115,14 +115,14 @@ impl Settings {
         requires sets { kept_sets layout.now self.old cpu.number place.number < limits.most_sets }
         ensures { self.new ≡ with_kept_threshold layout.now cpu.number place.number t self.old }
     {
-        let at = cell_from(0, layout.places() as usize, cpu, place.number);
+        let at = cell_from(0, layout.places() as usize, cpu, place.number as usize);
         let number = self.threshold_sets.get(at) + 1;
         self.thresholds.set(at, t);
         self.threshold_sets.set(at, number);
         self.largest_sets = number.max(self.largest_sets);
         let zones = layout.zones().len();
         if (place.number as usize) < zones {
-            let peak_at = cell_from(0, zones, cpu, place.number);
+            let peak_at = cell_from(0, zones, cpu, place.number as usize);
             let before = self.peaks.get(peak_at);
             self.peaks.set(peak_at, t.max(before));
         }
@@ -153,9 +153,9 @@ impl Settings {
         ensures { self.new ≡ with_kept_peak layout.now cpu.number zone.number newest self.old }
     {
         if newest {
-            let at = cell_from(0, layout.places() as usize, cpu, zone.number);
+            let at = cell_from(0, layout.places() as usize, cpu, zone.number as usize);
             let threshold = self.thresholds.get(at);
-            let peak_at = cell_from(0, layout.zones().len(), cpu, zone.number);
+            let peak_at = cell_from(0, layout.zones().len(), cpu, zone.number as usize);
             self.peaks.set(peak_at, threshold);
         }
     }

@@ -19,9 +19,7 @@ impl PageTable {
         ensures made { MadeOne pages (P.pass pass.new) (P.pass pass.old) (LoadG counter result) }
         ensures volume { P.volume pass.new ≡ P.volume pass.old }
     {
-        let place = self
-            .blocks
-            .place_of(&self.facts.layout, Spot::Value(counter));
+        let place = self.blocks.place_of(&self.layout, Spot::Value(counter));
         decode(pass.load_at(&self.words, place, &Step::LoadG(counter, 0)))
     }
 
@@ -33,7 +31,7 @@ impl PageTable {
         ensures made { MadeOne pages (P.pass pass.new) (P.pass pass.old) (LoadS item result) }
         ensures volume { P.volume pass.new ≡ P.volume pass.old }
     {
-        let place = self.blocks.place_of(&self.facts.layout, Spot::System(item));
+        let place = self.blocks.place_of(&self.layout, Spot::System(item));
         decode(pass.load_at(&self.words, place, &Step::LoadS(item, 0)))
     }
 
@@ -51,7 +49,7 @@ impl PageTable {
         };
         let at = self
             .blocks
-            .place_of(&self.facts.layout, Spot::Threshold(cpu, place));
+            .place_of(&self.layout, Spot::Threshold(cpu, place));
         threshold_of(pass.load_at(&self.words, at, &Step::LoadT(place, 0, 0)))
     }
 
@@ -63,7 +61,7 @@ impl PageTable {
         ensures made { MadeOne pages (P.pass pass.new) (P.pass pass.old) (LoadM zone result.mark result.number) }
         ensures volume { P.volume pass.new ≡ P.volume pass.old }
     {
-        let place = self.blocks.place_of(&self.facts.layout, Spot::Mark(zone));
+        let place = self.blocks.place_of(&self.layout, Spot::Mark(zone));
         mark_of(pass.load_at(&self.words, place, &Step::LoadM(zone, 0, 0)))
     }
 
@@ -75,7 +73,7 @@ impl PageTable {
         ensures made { MadeOne pages (P.pass pass.new) (P.pass pass.old) (LoadO cpu result) }
         ensures volume { P.volume pass.new ≡ P.volume pass.old }
     {
-        let place = self.blocks.place_of(&self.facts.layout, Spot::Cpu(cpu));
+        let place = self.blocks.place_of(&self.layout, Spot::Cpu(cpu));
         cpu_of(pass.load_at(&self.words, place, &Step::LoadO(cpu, CpuState::Online)))
     }
 }

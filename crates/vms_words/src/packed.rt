@@ -1,4 +1,4 @@
-ghost use Rattle.std.specs.Prelude.{◌≡◌, ◌/◌, ◌%◌, ◌^◌, ◌<◌, ◌≤◌};
+ghost use Rattle.std.specs.Prelude.{◌≡◌, ◌/◌, ◌%◌, ◌^◌, ◌<◌, ◌≤◌, IfSome};
 ghost use Rattle.vms_calls.specs.Common.{AreBytes, IsOpening};
 ghost use Rattle.vms_words.specs.Shown as words;
 ghost use Rattle.vms_words.specs.Told.{acknowledgement_told, cpu_told};
@@ -97,8 +97,21 @@ pub(crate) fn acknowledged_of(word: u64) -> Option<u32>
     }
 }
 
+/// The word that shows one number of a state in which nothing was set yet, or the one between rows.
+pub(crate) fn word_by(layout: &Layout, state: &State, spot: Option<Spot>) -> u64
+    requires opening { IsOpening layout.now state.now }
+    requires bytes { AreBytes state.now.diff }
+    requires spot { IfSome spot (IsSpot layout.now) }
+    ensures { result ≡ words.word_by state.now spot }
+{
+    match spot {
+        None => 0,
+        Some(spot) => word_of(layout, state, spot),
+    }
+}
+
 /// The word that shows one number of a state in which nothing was set yet.
-pub(crate) fn word_of(layout: &Layout, state: &State, spot: Spot) -> u64
+fn word_of(layout: &Layout, state: &State, spot: Spot) -> u64
     requires opening { IsOpening layout.now state.now }
     requires bytes { AreBytes state.now.diff }
     requires spot { IsSpot layout.now spot }

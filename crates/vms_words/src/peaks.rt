@@ -18,7 +18,7 @@ impl PageTable {
         requires zone { IsZone self.now.facts.layout zone.number }
         ensures { result ≡ cores.peak self.now.facts cpu.number zone.number pass.now.seen }
     {
-        u64::from(pass.kept.peak_at(&self.facts.layout, cpu, zone))
+        u64::from(pass.kept.peak_at(&self.layout, cpu, zone))
     }
 
     /// What the CPUs that are online or dead may hide of a zone together, in pages.
@@ -27,7 +27,7 @@ impl PageTable {
         requires zone { IsZone self.now.facts.layout zone.number }
         ensures { result ≡ cores.peak_sum self.now.facts zone.number pass.now.seen }
     {
-        pass.kept.hidden(&self.facts.layout, zone)
+        pass.kept.hidden(&self.layout, zone)
     }
 
     /// The largest number of times that any one threshold or mark was set in this phase.

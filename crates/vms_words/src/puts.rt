@@ -38,7 +38,7 @@ impl PageTable {
         let changed = change(mode, threshold, found.entry(position), delta);
         let old = found.word();
         let new = found.with_entry(position, changed.differential).word();
-        let group = self.facts.layout.group(counter);
+        let group = self.layout.group(counter);
         let place = first_group + group.number as usize;
         let plan = Step::Put(counter, found.list(), threshold, delta, mode);
         let stood = pass.worker.exchange_at(&self.words, place, old, new, &plan);

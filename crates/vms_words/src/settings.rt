@@ -24,12 +24,12 @@ impl PageTable {
     {
         let at = self
             .blocks
-            .place_of(&self.facts.layout, Spot::Threshold(cpu, place));
-        let number = pass.kept.sets_at(&self.facts.layout, cpu, place) + 1;
+            .place_of(&self.layout, Spot::Threshold(cpu, place));
+        let number = pass.kept.sets_at(&self.layout, cpu, place) + 1;
         let word = threshold_word(Threshold { t, number });
         let plan = Step::SetT(cpu, place, t);
         pass.worker.swap_at(&self.words, at, word, &plan);
-        pass.kept.keep_threshold(&self.facts.layout, cpu, place, t);
+        pass.kept.keep_threshold(&self.layout, cpu, place, t);
     }
 
     /// Sets a zone's drift mark, in pages, and counts that it was set. A mark may fall.
@@ -41,12 +41,12 @@ impl PageTable {
             < most_sets }
         ensures { MadeOne pages pass.new pass.old (SetM zone m) }
     {
-        let at = self.blocks.place_of(&self.facts.layout, Spot::Mark(zone));
+        let at = self.blocks.place_of(&self.layout, Spot::Mark(zone));
         let number = pass.kept.mark_sets.get(zone.number as usize) + 1;
         let word = mark_word(MarkRead { mark: m, number });
         let plan = Step::SetM(zone, m);
         pass.worker.swap_at(&self.words, at, word, &plan);
-        pass.kept.keep_mark(&self.facts.layout, zone);
+        pass.kept.keep_mark(&self.layout, zone);
     }
 
     /// Makes a dead CPU absent, once all its differentials are 0.
@@ -57,7 +57,7 @@ impl PageTable {
             (state_after self.now.facts pass.old.seen) pass.old.number cpu }
         ensures { MadeOne pages pass.new pass.old (SetO cpu) }
     {
-        let at = self.blocks.place_of(&self.facts.layout, Spot::Cpu(cpu));
+        let at = self.blocks.place_of(&self.layout, Spot::Cpu(cpu));
         let plan = Step::SetO(cpu);
         pass.worker
             .swap_at(&self.words, at, cpu_word(CpuState::Absent), &plan);

@@ -1,4 +1,5 @@
 use vms_base::{CounterId, CpuId, GroupId, ItemId, Layout, PlaceId};
+use vms_rows::row_width;
 
 /// What a word of the table holds.
 #[derive(Clone, Copy, Debug, PartialEq, Eq)]
@@ -19,51 +20,51 @@ pub(crate) enum Spot {
     Acknowledgement(CpuId, PlaceId),
 }
 
-/// Where the words of each kind begin, and how many of a kind each CPU has.
+/// Where the words of each kind begin, those of a CPU in its row.
 #[derive(Clone, Copy, Debug, PartialEq, Eq)]
 pub(crate) struct Blocks {
     pub systems: usize,
-    pub groups: usize,
-    pub thresholds: usize,
     pub marks: usize,
-    pub cpus: usize,
+    /// How many words are of no CPU.
+    pub shared: usize,
+    /// Where the row of CPU 0 begins.
+    pub rows: usize,
+    pub thresholds: usize,
     pub acknowledgements: usize,
+    pub state: usize,
+    /// How many words stand from the begin of a row to that of the next one.
+    pub width: usize,
     pub end: usize,
-    pub groups_each: usize,
-    pub places_each: usize,
-    pub zones_each: usize,
 }
 
 impl Blocks {
-    ghost use Rattle.std.specs.Prelude.{◌≡◌, ◌<◌};
+    ghost use Rattle.std.specs.Prelude.{◌≡◌, ◌<◌, ◌^◌};
     ghost use Rattle.vms_calls.specs.Common.{IsCpu, IsLayout};
-    ghost use Rattle.vms_words.specs.Spots.{blocks_of, groups_start, place_in, spot_in, IsSpot};
+    ghost use Rattle.vms_words.specs.Spots.{blocks_of, groups_start, place_in, spot_before, spot_in_row, IsSpot};
 
     /// The blocks of a layout's table.
     pub fn of(layout: &Layout) -> Blocks
         ensures { result ≡ blocks_of layout.now }
     {
-        let cpus = layout.cpus() as usize;
-        let groups_each = layout.groups() as usize;
-        let places_each = layout.places() as usize;
-        let zones_each = layout.zones().len();
+        let zones = layout.zones().len();
         let systems = layout.counters() as usize;
-        let groups = systems + layout.items() as usize;
-        let thresholds = groups + cpus * groups_each;
-        let marks = thresholds + cpus * places_each;
-        let states = marks + zones_each;
-        let acknowledgements = states + cpus;
+        let marks = systems + layout.items() as usize;
+        let shared = marks + zones;
+        let rows = row_width(shared);
+        let thresholds = layout.groups() as usize;
+        let acknowledgements = thresholds + layout.places() as usize;
+        let state = acknowledgements + zones;
+        let width = row_width(state + 1);
         Blocks {
             systems,
-            groups,
-            thresholds,
             marks,
-            cpus: states,
+            shared,
+            rows,
+            thresholds,
             acknowledgements,
-            end: acknowledgements + cpus * zones_each,
-            groups_each,
-            places_each,
-            zones_each,
+            state,
+            width,
+            end: rows + layout.cpus() as usize * width,
         }
     }
 
@@ -79,17 +80,19 @@ impl Blocks {
         match spot {
             Spot::Value(counter) => counter.number as usize,
             Spot::System(item) => self.systems + item.number as usize,
+            Spot::Mark(zone) => self.marks + zone.number as usize,
             Spot::Group(cpu, group) => {
-                cell_from(self.groups, self.groups_each, cpu, group.number)
+                cell_from(self.rows, self.width, cpu, group.number as usize)
             }
             Spot::Threshold(cpu, place) => {
-                cell_from(self.thresholds, self.places_each, cpu, place.number)
+                let thing = self.thresholds + place.number as usize;
+                cell_from(self.rows, self.width, cpu, thing)
             }
-            Spot::Mark(zone) => self.marks + zone.number as usize,
-            Spot::Cpu(cpu) => self.cpus + cpu.number as usize,
             Spot::Acknowledgement(cpu, zone) => {
-                cell_from(self.acknowledgements, self.zones_each, cpu, zone.number)
+                let thing = self.acknowledgements + zone.number as usize;
+                cell_from(self.rows, self.width, cpu, thing)
             }
+            Spot::Cpu(cpu) => cell_from(self.rows, self.width, cpu, self.state),
         }
     }
 
@@ -100,59 +103,79 @@ impl Blocks {
         requires cpu { IsCpu layout.now cpu.number }
         ensures { result ≡ groups_start layout.now cpu.number }
     {
-        cell_from(self.groups, self.groups_each, cpu, 0)
+        cell_from(self.rows, self.width, cpu, 0)
     }
 
-    /// What the word at a place holds.
-    pub fn spot_at(&self, layout: &Layout, place: usize) -> Spot
-        requires layout { IsLayout layout.now }
-        requires laid { self.now ≡ blocks_of layout.now }
-        requires place { place < self.now.end }
-        ensures { result ≡ spot_in self.now place }
+    /// What the word at a place before the rows holds; none where it stays 0.
+    pub fn before_rows(&self, place: usize) -> Option<Spot>
+        requires { place < 2 ^ 32 }
+        ensures { result ≡ spot_before self.now place }
     {
         if place < self.systems {
-            return Spot::Value(CounterId {
+            return Some(Spot::Value(CounterId {
                 number: place as u32,
-            });
-        }
-        if place < self.groups {
-            return Spot::System(ItemId {
-                number: (place - self.systems) as u32,
-            });
-        }
-        if place < self.thresholds {
-            let (cpu, thing) = row_and_column(place - self.groups, self.groups_each);
-            return Spot::Group(cpu, GroupId { number: thing });
+            }));
         }
         if place < self.marks {
-            let (cpu, thing) = row_and_column(place - self.thresholds, self.places_each);
-            return Spot::Threshold(cpu, PlaceId { number: thing });
+            return Some(Spot::System(ItemId {
+                number: (place - self.systems) as u32,
+            }));
         }
-        if place < self.cpus {
-            return Spot::Mark(PlaceId {
+        if place < self.shared {
+            return Some(Spot::Mark(PlaceId {
                 number: (place - self.marks) as u32,
-            });
+            }));
+        }
+        None
+    }
+
+    /// What the word at a place of a CPU's row holds; none where it stays 0.
+    pub fn in_row(&self, cpu: CpuId, place: usize) -> Option<Spot>
+        requires place { place < 2 ^ 32 }
+        requires state { self.now.state < 2 ^ 32 }
+        ensures { result ≡ spot_in_row self.now cpu.number place }
+    {
+        if place < self.thresholds {
+            return Some(Spot::Group(
+                cpu,
+                GroupId {
+                    number: place as u32,
+                },
+            ));
         }
         if place < self.acknowledgements {
-            return Spot::Cpu(CpuId {
-                number: (place - self.cpus) as u32,
-            });
+            return Some(Spot::Threshold(
+                cpu,
+                PlaceId {
+                    number: (place - self.thresholds) as u32,
+                },
+            ));
         }
-        let (cpu, thing) = row_and_column(place - self.acknowledgements, self.zones_each);
-        Spot::Acknowledgement(cpu, PlaceId { number: thing })
+        if place < self.state {
+            return Some(Spot::Acknowledgement(
+                cpu,
+                PlaceId {
+                    number: (place - self.acknowledgements) as u32,
+                },
+            ));
+        }
+        if place < self.state + 1 {
+            return Some(Spot::Cpu(cpu));
+        }
+        None
     }
 }
 
 ghost use Rattle.std.specs.Prelude.{◌≡◌, ◌+◌, ◌/◌, ◌%◌, ◌<◌, ◌^◌};
 ghost use Rattle.vms_base.specs.Places as places;
 
-/// The place of a cell of a table that begins at a place, with so many things for each CPU.
+/// The place of a thing of a CPU in rows that begin at a place.
 #[inline]
-pub(crate) fn cell_from(start: usize, width: usize, cpu: CpuId, thing: u32) -> usize
+pub(crate) fn cell_from(start: usize, width: usize, cpu: CpuId, thing: usize) -> usize
     requires { start + places.cell width cpu.number thing < 2 ^ 63 }
     ensures { result ≡ start + places.cell width cpu.number thing }
 {
-    start + (cpu.number as usize * width + thing as usize)
+    start + (cpu.number as usize * width + thing)
 }
 
 /// The CPU and the thing of a cell, where each CPU has so many.

@@ -1,24 +1,24 @@
-ghost use Rattle.std.specs.Prelude.{◌≡◌, ℕ, ◌<◌, Some, None, false, [], length, map, IfOk};
-ghost use Rattle.std.specs.List.{range_with_len};
-ghost use Rattle.vms_calls.specs.Common.{MayOwnCpu, IsBase, IsOpening, settled, HasShape, Split, Join, CarriesNothing};
-ghost use Rattle.vms_calls.specs.Common.{pages, state_after, role, facts_of, own, IsFree, lives_in, IsLayout};
+ghost use Rattle.std.specs.Prelude.{◌≡◌, ℕ, Some, None, false, [], IfOk};
+ghost use Rattle.vms_calls.specs.Common.{MayOwnCpu, IsBase, settled, HasShape, Split, Join, CarriesNothing, pages};
+ghost use Rattle.vms_calls.specs.Common.{state_after, role, facts_of, own, IsFree, lives_in, IsLayout, group_count};
+ghost use Rattle.vms_calls.specs.Common.{place_count};
 ghost use Rattle.vms_core.specs.Pages.{IsLegal};
 ghost use Rattle.vms_seats.specs.Common.{HasBegun, HasEnded, IsFrom};
 ghost use Rattle.vms_words.specs.PagePasses.{HoldsSpending};
 ghost use Rattle.vms_words.specs.Rows.{AreThere};
-ghost use Rattle.vms_words.specs.Shown.{shown, spot_word};
-ghost use Rattle.vms_words.specs.Spots.{blocks_of, spot_in};
+ghost use Rattle.vms_words.specs.Spots.{blocks_of};
 
 use crate::SharedPages;
-use crate::endings::{Cpus, Marks, Thresholds, Unacknowledged, Unset, Values, fill, fill_groups};
+use crate::endings::{Cpus, Marks, Thresholds, clear, fill_groups};
 use crate::kept::Settings;
-use crate::packed::word_of;
+use crate::opening::opening_words;
 use crate::passes::{ControlPass, CpuPass, MainPass};
 use crate::spots::Blocks;
 use std::alloc::Global;
 use std::marker::Model;
 use vms_base::{CpuId, CpuState, Header, Layout, Memory, Row, Volume};
 use vms_core::{Facts, State};
+use vms_rows::{Signed, fill_row, fill_rows};
 use vms_seats::{Closing, History, Words};
 
 /// The history of a phase on the page counters, which is legal and complete. It stores no event.
@@ -28,7 +28,7 @@ pub type PhaseHistory = History<SharedPages>;
 /// begins with: the layout, the sizes and the state at the start.
 #[derive(Drop)]
 pub struct PageTable {
-    pub(crate) facts: Facts,
+    pub(crate) layout: Layout,
     pub(crate) blocks: Blocks,
     pub(crate) words: Words<SharedPages>,
 }
@@ -43,7 +43,7 @@ impl Model for PageTable {
 
     ghost view = { λ t. t.words };
 
-    ghost invariant = { λ t. AreMadeFor t.facts t.blocks t.words };
+    ghost invariant = { λ t. AreMadeFor t.layout t.blocks t.words };
 }
 
 impl PageTable {
@@ -65,11 +65,16 @@ impl PageTable {
         };
         let blocks = Blocks::of(&facts.layout);
         let kept = Settings::opening(alloc, &facts.layout, &facts.base)?;
-        let first = opening_words(alloc, &facts.layout, blocks, &facts.base)?;
+        let first = opening_words(alloc, &facts.layout, &blocks, &facts.base)?;
         let (words, main) = Words::make(alloc, &facts, first.as_slice())?;
+        let Facts {
+            layout,
+            sizes: _,
+            base: _,
+        } = facts;
         Ok((
             PageTable {
-                facts,
+                layout,
                 blocks,
                 words,
             },
@@ -85,7 +90,7 @@ impl PageTable {
     pub fn layout(&self) -> &Layout
         ensures { result.now ≡ self.now.facts.layout }
     {
-        &self.facts.layout
+        &self.layout
     }
 
     /// Begins a pass that owns a CPU, with the volumes that the CPU has by then.
@@ -97,7 +102,7 @@ impl PageTable {
         ensures begun { HasBegun pages Split main.new main.old result.pass (Some cpu) }
         ensures volume { result.volume ≡ volume }
     {
-        let first_group = self.blocks.first_group(&self.facts.layout, cpu);
+        let first_group = self.blocks.first_group(&self.layout, cpu);
         let worker = main.main.begin(&self.words, Some(cpu));
         CpuPass {
             worker,
@@ -162,38 +167,50 @@ impl PageTable {
         let MainPass { main, kept: _ } = main;
         main.is_main();
         let PageTable {
-            facts: _,
+            layout,
             blocks,
             words,
         } = self;
+        let cpus = layout.cpus() as usize;
+        let groups = layout.groups() as usize;
+        let places = layout.places() as usize;
         let closing = words.close(main);
-        write_state(&closing, blocks, into);
+        write_state(&closing, &blocks, cpus, groups, places, into);
         closing.leave()
     }
 }
 
 /// Writes the last state as the next phase begins with it.
-fn write_state(closing: &Closing<SharedPages>, blocks: Blocks, into: &mut State)
+fn write_state(
+    closing: &Closing<SharedPages>,
+    blocks: &Blocks,
+    cpus: usize,
+    groups: usize,
+    places: usize,
+    into: &mut State,
+)
     requires legal { IsLegal closing.now.facts closing.now.events }
-    requires laid { blocks ≡ blocks_of closing.now.facts.layout }
+    requires laid { blocks.now ≡ blocks_of closing.now.facts.layout }
     requires shaped { HasShape closing.now.facts.layout into.old }
-    requires there { AreThere closing.now.facts (state_after closing.now.facts closing.now.events) blocks into.old }
+    requires counts { (cpus ≡ closing.now.facts.layout.cpus) × (groups ≡ group_count closing.now.facts.layout)
+        × (places ≡ place_count closing.now.facts.layout) }
+    requires there { AreThere closing.now.facts (state_after closing.now.facts closing.now.events) blocks.now
+        cpus groups places into.old }
     ensures { into.new ≡ settled (state_after closing.now.facts closing.now.events) }
 {
-    fill::<i64, Values>(closing, 0, &mut into.place);
-    fill::<i64, Values>(closing, blocks.systems, &mut into.system);
-    fill_groups(
-        closing,
-        blocks.groups,
-        blocks.thresholds - blocks.groups,
-        &mut into.diff,
-    );
-    fill::<u32, Thresholds>(closing, blocks.thresholds, &mut into.threshold);
-    fill::<u64, Marks>(closing, blocks.marks, &mut into.mark);
-    fill::<CpuState, Cpus>(closing, blocks.cpus, &mut into.cpu);
-    fill::<Option<u32>, Unacknowledged>(closing, blocks.acknowledgements, &mut into.acknowledged);
-    fill::<u32, Unset>(closing, blocks.thresholds, &mut into.threshold_sets);
-    fill::<u32, Unset>(closing, blocks.marks, &mut into.mark_sets);
+    let width = blocks.width;
+    let thresholds = blocks.rows + blocks.thresholds;
+    let states = blocks.rows + blocks.state;
+    fill_row::<SharedPages, i64, Signed>(closing, 0, &mut into.place);
+    fill_row::<SharedPages, i64, Signed>(closing, blocks.systems, &mut into.system);
+    fill_row::<SharedPages, u64, Marks>(closing, blocks.marks, &mut into.mark);
+    fill_groups(closing, blocks.rows, width, cpus, groups, &mut into.diff);
+    let threshold = &mut into.threshold;
+    fill_rows::<SharedPages, u32, Thresholds>(closing, thresholds, width, cpus, threshold, places);
+    fill_rows::<SharedPages, CpuState, Cpus>(closing, states, width, cpus, &mut into.cpu, 1);
+    clear(&mut into.acknowledged, None);
+    clear(&mut into.threshold_sets, 0);
+    clear(&mut into.mark_sets, 0);
 }
 
 /// A copy of a state.
@@ -220,25 +237,4 @@ fn copied(alloc: Global, state: &State) -> Result<State, Memory>
         threshold_sets,
         mark_sets,
     })
-}
-
-/// The words that show the state in which a phase begins.
-fn opening_words(
-    alloc: Global,
-    layout: &Layout,
-    blocks: Blocks,
-    state: &State,
-) -> Result<Vec<u64>, Memory>
-    requires layout { IsLayout layout.now }
-    requires laid { blocks ≡ blocks_of layout.now }
-    requires opening { IsOpening layout.now state.now }
-    ensures { IfOk result (λ words. words.items ≡ map (λ n. spot_word state.now (spot_in blocks n))
-        (range_with_len 0 blocks.end)) }
-{
-    let mut words = Vec::with_capacity(alloc, blocks.end)?;
-    for place in 0..blocks.end {
-        let spot = blocks.spot_at(layout, place);
-        words.push(word_of(layout, state, spot))?;
-    }
-    Ok(words)
 }

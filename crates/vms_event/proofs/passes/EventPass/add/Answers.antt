@@ -15,7 +15,7 @@ add_at-requires-clause-place c =
     (subst (IsFrom c.args.self.now.pass) (sym c.table.view_is) c.requires.table) in
     subst (λ at. at < c.table.inside.words.table.words) (sym c.place.ensures)
     (own-place c.self.inside.worker c.self.inside.cpu c.self.inside.volume c.self.invariant c.args.event c.args.n
-    c.requires.event c.table.inside.facts c.table.inside.words c.table.invariant of)
+    c.requires.event c.table.inside.layout c.table.inside.cpus c.table.inside.words c.table.invariant of)
 
 pub add_at-requires-clause-step : goal.add_at-requires-clause-step
 add_at-requires-clause-step c =

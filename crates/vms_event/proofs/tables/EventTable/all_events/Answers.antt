@@ -13,8 +13,8 @@ loop-number-init g c =
 
 pub overflow_add-sum : goal.overflow_add-sum
 overflow_add-sum g c =
-    let states_are = c.as_slice-state-items.ensures ∙ ap (λ (f : EventFacts). f.cpus)
-    (sym c.self.invariant.same ∙ ap (λ (s : Shared EventFacts). s.facts) c.self.view_is) in
+    let states_are = c.as_slice-state-items.ensures ∙ sym c.self.invariant.same_cpus
+    ∙ ap (λ (s : Shared EventFacts). s.facts.cpus) c.self.view_is in
     let loaded = so_far-then c.args.self.now.facts c.args.event c.requires.event (g.P.Works.pass c.loop-number.pass)
     (g.P.Works.pass c.args.pass.now) c.loop-number.number c.loop-number.sum c.loop-number.invariant.0
     c.requires.table.facts c.as_slice-state-items.result.now states_are Online c.loop-number-test.true
@@ -27,8 +27,8 @@ overflow_add-sum g c =
 
 pub loop-number-preserved : goal.loop-number-preserved
 loop-number-preserved g c =
-    let states_are = c.as_slice-state-items.ensures ∙ ap (λ (f : EventFacts). f.cpus)
-    (sym c.self.invariant.same ∙ ap (λ (s : Shared EventFacts). s.facts) c.self.view_is) in
+    let states_are = c.as_slice-state-items.ensures ∙ sym c.self.invariant.same_cpus
+    ∙ ap (λ (s : Shared EventFacts). s.facts.cpus) c.self.view_is in
     elim c.if-is_online.branch [
       | then-is_online w ↦ (
         subst

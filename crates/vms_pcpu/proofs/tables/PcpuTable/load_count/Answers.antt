@@ -15,7 +15,7 @@ pub load_at-requires-clause-step : goal.load_at-requires-clause-step
 load_at-requires-clause-step c =
     let j = c.args.counter in
     subst (λ at. MayStep percpu shown c.args.worker.now at (λ n. n) (told (LoadC j (pos 0))))
-    (sym c.count_place.ensures)
+    (sym c.count_place.ensures.place)
     (count-load c.args.worker.now j
     (subst (λ (f : PcpuFacts). IsPcpu f j.number) (sym c.requires.table.facts) c.requires.counter))
 

@@ -7,11 +7,13 @@ pub returns : goal.returns
 unfolding blocks_of
 returns c =
     rw (
+      c.row_width-rows.ensures,
+      c.row_width-width.ensures,
       c.counters-systems.ensures.value,
       c.items.ensures.value,
-      c.cpus-cpus.ensures.value,
-      c.groups-groups_each.ensures.value,
-      c.places-places_each.ensures.value,
-      c.zones-zones_each.ensures.value,
+      c.cpus.ensures.value,
+      c.groups-thresholds.ensures.value,
+      c.places.ensures.value,
+      c.zones-zones.ensures.value,
     )
     refl

@@ -16,6 +16,19 @@ cell_from-requires c =
     c.args.spot (Group c.in-Group.cpu c.in-Group.group) c.requires.spot c.in-Group.is in
     omega (arith, fits)
 
+pub overflow_add-thing : goal.overflow_add-thing
+overflow_add-thing c =
+    let fits = place-fits c.args.layout.now c.requires.layout c.args.self.now c.requires.laid
+    c.args.spot (Threshold c.in-Threshold.cpu c.in-Threshold.place) c.requires.spot c.in-Threshold.is in
+    omega (arith, fits)
+
+pub overflow_add-thing-in-Acknowledgement : goal.overflow_add-thing-in-Acknowledgement
+overflow_add-thing-in-Acknowledgement c =
+    let fits = place-fits c.args.layout.now c.requires.layout c.args.self.now c.requires.laid
+    c.args.spot (Acknowledgement c.in-Acknowledgement.cpu c.in-Acknowledgement.zone) c.requires.spot
+    c.in-Acknowledgement.is in
+    omega (arith, fits)
+
 pub cell_from-requires-in-Threshold : goal.cell_from-requires-in-Threshold
 cell_from-requires-in-Threshold c =
     let fits = place-fits c.args.layout.now c.requires.layout c.args.self.now c.requires.laid
@@ -28,8 +41,8 @@ overflow_add-result-in-Mark c =
     c.args.spot (Mark c.in-Mark.zone) c.requires.spot c.in-Mark.is in
     omega (arith, fits)
 
-pub overflow_add-result-in-Cpu : goal.overflow_add-result-in-Cpu
-overflow_add-result-in-Cpu c =
+pub cell_from-requires-in-Cpu : goal.cell_from-requires-in-Cpu
+cell_from-requires-in-Cpu c =
     let fits = place-fits c.args.layout.now c.requires.layout c.args.self.now c.requires.laid
     c.args.spot (Cpu c.in-Cpu.cpu) c.requires.spot c.in-Cpu.is in
     omega (arith, fits)
@@ -64,8 +77,9 @@ returns-in-Mark-clause-within c = place-lt c.args.layout.now c.requires.layout c
     c.args.spot (Mark c.in-Mark.zone) c.requires.spot c.in-Mark.is
 
 pub returns-in-Cpu-clause-within : goal.returns-in-Cpu-clause-within
-returns-in-Cpu-clause-within c = place-lt c.args.layout.now c.requires.layout c.args.self.now c.requires.laid
-    c.args.spot (Cpu c.in-Cpu.cpu) c.requires.spot c.in-Cpu.is
+returns-in-Cpu-clause-within c = rw c.cell_from-in-Cpu.ensures
+    (place-lt c.args.layout.now c.requires.layout c.args.self.now c.requires.laid
+    c.args.spot (Cpu c.in-Cpu.cpu) c.requires.spot c.in-Cpu.is)
 
 pub returns-in-Acknowledgement-clause-within : goal.returns-in-Acknowledgement-clause-within
 returns-in-Acknowledgement-clause-within c = rw c.cell_from-in-Acknowledgement.ensures

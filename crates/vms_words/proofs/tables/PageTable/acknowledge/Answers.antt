@@ -16,10 +16,10 @@ place_of-place-requires-clause-spot g c =
     let pass = g.P.Caller.pass c.args.pass.now in
     let acknowledges = subst (λ (f : Facts). Acknowledges f pass.seen pass.number c.args.zone c.args.number)
     (sym c.requires.table.facts) c.requires.acknowledges in (
-      known-in c.self.inside.facts c.self.inside.blocks c.self.inside.words c.args.self.now pass c.self.invariant
+      known-in c.self.inside.layout c.self.inside.blocks c.self.inside.words c.args.self.now pass c.self.invariant
           c.self.view_is c.requires.table (λ shape. IsCpu shape c.in-Some.cpu.number)
           (owned-known pass c.in-Some.cpu c.own.ensures.live (sym c.own.ensures.cpu ∙ c.in-Some.is)),
-      known-in c.self.inside.facts c.self.inside.blocks c.self.inside.words c.args.self.now pass c.self.invariant
+      known-in c.self.inside.layout c.self.inside.blocks c.self.inside.words c.args.self.now pass c.self.invariant
           c.self.view_is c.requires.table (λ shape. IsZone shape c.args.zone.number) acknowledges.zone,
     )
 
@@ -27,7 +27,7 @@ pub swap_at-requires-clause-step : goal.swap_at-requires-clause-step
 swap_at-requires-clause-step g c =
     let pass = g.P.Caller.pass c.args.pass.now in
     let owns = sym c.own.ensures.cpu ∙ c.in-Some.is in
-    may-at c.self.inside.facts c.self.inside.blocks c.self.inside.words c.args.self.now pass c.self.invariant
+    may-at c.self.inside.layout c.self.inside.blocks c.self.inside.words c.args.self.now pass c.self.invariant
     c.self.view_is c.requires.table (Acknowledgement c.in-Some.cpu c.args.zone) c.place_of-place.result
     c.place_of-place.ensures.value (λ n. c.acknowledgement_word.result) (told (SetA c.args.zone c.args.number))
     (subst

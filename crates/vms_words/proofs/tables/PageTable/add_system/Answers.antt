@@ -8,7 +8,7 @@ use Rattle.vms_words.proofs.tables.PageTable.add_system.Goals as goal
 pub add_at-requires-clause-step : goal.add_at-requires-clause-step
 add_at-requires-clause-step g c =
     let pass = g.P.Caller.pass c.args.pass.now in
-    add-at c.self.inside.facts c.self.inside.blocks c.self.inside.words c.args.self.now pass c.self.invariant
+    add-at c.self.inside.layout c.self.inside.blocks c.self.inside.words c.args.self.now pass c.self.invariant
     c.self.view_is c.requires.table (System c.args.item) c.place_of-place.result c.place_of-place.ensures.value
     c.args.amount c.ranges.amount (AddS c.args.item) c.encode.result c.encode.ensures
     (system-add pass c.args.item c.args.amount

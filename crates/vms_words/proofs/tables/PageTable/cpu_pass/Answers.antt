@@ -1,7 +1,7 @@
 -- The goals were that the volumes hold what the CPU has spent in what the pass has seen, that its groups begin where
 -- the pass keeps, and that what the main pass keeps of the settings stands.
 use Rattle.std.proofs.Common.{◌≡◌, ◌∙◌, Some, ap, sym, subst}
-use Rattle.vms_calls.specs.Common.{IsFree, Facts, Step, role}
+use Rattle.vms_calls.specs.Common.{IsFree, Facts, Shape, Step, role}
 use Rattle.vms_seats.specs.Common.{Pass, Shared}
 use Rattle.vms_words.specs.Common.{HoldsSpending, groups_start}
 use Rattle.vms_words.proofs.Begun.{owning-begun}
@@ -17,9 +17,10 @@ invariant_of-result c = (
       (sym c.main.view_is)
       (subst (λ (facts : Facts). HoldsSpending facts.layout c.args.main.now.seen c.args.cpu.number c.args.volume)
       (sym c.requires.table.facts) c.requires.volume)),
-  subst (λ (facts : Facts). c.first_group-first_group.result ≡ groups_start facts.layout c.args.cpu.number)
-      (sym (c.begin-worker.ensures.facts ∙ ap (λ (p : Pass Facts Step). p.facts) c.main.view_is
-      ∙ c.requires.table.facts ∙ ap (λ (s : Shared Facts). s.facts) (sym c.self.view_is) ∙ c.self.invariant.same))
+  subst (λ (shape : Shape). c.first_group-first_group.result ≡ groups_start shape c.args.cpu.number)
+      (sym (ap (λ (f : Facts). f.layout) (c.begin-worker.ensures.facts ∙ ap (λ (p : Pass Facts Step). p.facts)
+      c.main.view_is ∙ c.requires.table.facts ∙ ap (λ (s : Shared Facts). s.facts) (sym c.self.view_is))
+      ∙ c.self.invariant.same))
       c.first_group-first_group.ensures,
 )
 

@@ -10,9 +10,9 @@ use Rattle.vms_words.proofs.tables.PageTable.load_system.Goals as goal
 pub load_at-requires-clause-step : goal.load_at-requires-clause-step
 load_at-requires-clause-step g c =
     let pass = g.P.Caller.pass c.args.pass.now in
-    may-at c.self.inside.facts c.self.inside.blocks c.self.inside.words c.args.self.now pass c.self.invariant
+    may-at c.self.inside.layout c.self.inside.blocks c.self.inside.words c.args.self.now pass c.self.invariant
     c.self.view_is c.requires.table (System c.args.item) c.place_of-place.result c.place_of-place.ensures.value (λ n. n)
     (told (LoadS c.args.item (pos 0)))
     (system-load pass c.args.item (pos 0)
-    (known-of c.self.inside.facts c.self.inside.blocks c.self.inside.words c.args.self.now pass c.self.invariant
+    (known-of c.self.inside.layout c.self.inside.blocks c.self.inside.words c.args.self.now pass c.self.invariant
     c.self.view_is c.requires.table (λ shape. IsItem shape c.args.item.number) c.requires.item))

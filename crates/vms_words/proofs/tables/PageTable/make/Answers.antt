@@ -25,8 +25,8 @@ make-requires-clause-some c =
 
 pub invariant_of-result : goal.invariant_of-result
 invariant_of-result c = record {
-  base = subst IsBase same_facts c.requires;
-  same = c.in_ok-words.ensures.words.0;
+  base = subst IsBase (same_facts ∙ sym c.in_ok-words.ensures.words.0) c.requires;
+  same = ap (λ (f : Facts). f.layout) c.in_ok-words.ensures.words.0;
   laid = c.of-blocks.ensures;
   count = c.in_ok-words.ensures.words.1
       ∙ length-words c.in_ok-copied.field-0 c.of-blocks.result c.as_slice-2.result.now

@@ -30,10 +30,10 @@ pub overflow_add-place : goal.overflow_add-place
 overflow_add-place c =
     let of = subst (λ (p : OwningPass). IsFrom p.pass c.args.self.now) (sym c.pass.view_is) c.requires.table in
     let known = λ (Known : Shape → Type 0).
-    known-in c.self.inside.facts c.self.inside.blocks c.self.inside.words c.args.self.now c.pass.inside.worker
+    known-in c.self.inside.layout c.self.inside.blocks c.self.inside.words c.args.self.now c.pass.inside.worker
     c.self.invariant c.self.view_is of Known in
     record {
-      fits = group-fits c.self.inside.facts.layout c.self.inside.blocks c.self.invariant.laid c.pass.inside.cpu
+      fits = group-fits c.self.inside.layout c.self.inside.blocks c.self.invariant.laid c.pass.inside.cpu
           c.group-group.result c.pass.inside.first_group
           (known (λ shape. c.pass.inside.first_group ≡ groups_start shape c.pass.inside.cpu.number) c.pass.invariant.1)
           c.group-group.ensures.is_layout
@@ -46,10 +46,10 @@ pub exchange_at-stood-requires-clause-place : goal.exchange_at-stood-requires-cl
 exchange_at-stood-requires-clause-place c =
     let of = subst (λ (p : OwningPass). IsFrom p.pass c.args.self.now) (sym c.pass.view_is) c.requires.table in
     let known = λ (Known : Shape → Type 0).
-    known-in c.self.inside.facts c.self.inside.blocks c.self.inside.words c.args.self.now c.pass.inside.worker
+    known-in c.self.inside.layout c.self.inside.blocks c.self.inside.words c.args.self.now c.pass.inside.worker
     c.self.invariant c.self.view_is of Known in
     rw c.self.invariant.count
-    (group-within c.self.inside.facts.layout c.self.inside.blocks c.self.invariant.laid c.pass.inside.cpu
+    (group-within c.self.inside.layout c.self.inside.blocks c.self.invariant.laid c.pass.inside.cpu
     c.group-group.result c.pass.inside.first_group
     (known (λ shape. c.pass.inside.first_group ≡ groups_start shape c.pass.inside.cpu.number) c.pass.invariant.1)
     c.group-group.ensures.is_layout
@@ -64,9 +64,9 @@ exchange_at-stood-requires-clause-step c =
     let t = c.args.threshold in
     let of = subst (λ (p : OwningPass). IsFrom p.pass c.args.self.now) (sym c.pass.view_is) c.requires.table in
     let puts = subst (λ (p : OwningPass). MayPut p k w t c.args.delta) (sym c.pass.view_is) c.requires.puts in
-    let at = group-at c.self.inside.facts.layout c.self.inside.blocks c.self.invariant.laid c.pass.inside.cpu
+    let at = group-at c.self.inside.layout c.self.inside.blocks c.self.invariant.laid c.pass.inside.cpu
     c.group-group.result c.pass.inside.first_group
-    (known-in c.self.inside.facts c.self.inside.blocks c.self.inside.words c.args.self.now c.pass.inside.worker
+    (known-in c.self.inside.layout c.self.inside.blocks c.self.inside.words c.args.self.now c.pass.inside.worker
     c.self.invariant c.self.view_is of
     (λ shape. c.pass.inside.first_group ≡ groups_start shape c.pass.inside.cpu.number) c.pass.invariant.1) in
     let most = threshold-most c.pass.inside.worker c.pass.inside.cpu c.pass.inside.volume k w t c.args.delta
@@ -75,7 +75,7 @@ exchange_at-stood-requires-clause-step c =
     (c.pass.inside.first_group + c.group-group.result.number)
     (λ n. if n == c.word-old.result then c.word-new.result else n)
     (told (Put k v t (to_z w64 (of_z w64 c.args.delta)) c.args.mode))) (sym c.list.ensures)
-    (may-at c.self.inside.facts c.self.inside.blocks c.self.inside.words c.args.self.now c.pass.inside.worker
+    (may-at c.self.inside.layout c.self.inside.blocks c.self.inside.words c.args.self.now c.pass.inside.worker
     c.self.invariant c.self.view_is of (Group c.pass.inside.cpu c.group-group.result)
     (c.pass.inside.first_group + c.group-group.result.number) at
     (λ n. if n == c.word-old.result then c.word-new.result else n)

@@ -19,7 +19,7 @@ swap_at-requires-clause-step c =
     let sets = worker-knows pass c.args.pass.now c.args.self.now c.pass.view_is c.requires.table
     (λ (facts : Facts) (p : Pass Facts Step). SetsAbsent facts p.seen (state_after facts p.seen) p.number cpu)
     c.requires.sets in
-    may-at c.self.inside.facts c.self.inside.blocks c.self.inside.words c.args.self.now pass c.self.invariant
+    may-at c.self.inside.layout c.self.inside.blocks c.self.inside.words c.args.self.now pass c.self.invariant
     c.self.view_is of (Cpu cpu) c.place_of-at.result c.place_of-at.ensures.value
     (λ n. c.cpu_word.result) (told (SetO cpu))
     (subst

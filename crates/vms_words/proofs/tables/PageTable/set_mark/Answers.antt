@@ -20,7 +20,7 @@ swap_at-requires-clause-step c =
     (λ (facts : Facts) (p : Pass Facts Step). SetsMark facts p.seen p.number zone c.args.m) c.requires.sets in
     let number : c.get-number.result ≡ mark_sets_at (state_after pass.facts pass.seen) zone.number =
     sym (c.get-number.ensures 0) ∙ c.pass.invariant.knows.mark_sets zone.number sets.zone in
-    may-at c.self.inside.facts c.self.inside.blocks c.self.inside.words c.args.self.now pass c.self.invariant
+    may-at c.self.inside.layout c.self.inside.blocks c.self.inside.words c.args.self.now pass c.self.invariant
     c.self.view_is of (Mark zone) c.place_of-at.result c.place_of-at.ensures.value
     (λ n. c.mark_word-word.result) (told (SetM zone c.args.m))
     (subst

@@ -1,13 +1,13 @@
 -- The goals were that the pass may set the threshold, and that it keeps that it did.
 use Rattle.std.proofs.Common.{◌≡◌, ◌+◌, sym, ap, ◌∙◌, subst}
 use Rattle.vms_seats.specs.Common.{Pass, MayStep}
-use Rattle.vms_calls.specs.Common.{Facts, Step, SetT, threshold_sets_at, SetsThreshold, pages, state_after}
+use Rattle.vms_calls.specs.Common.{Shape, Facts, Step, SetT, threshold_sets_at, SetsThreshold, pages, state_after}
 use Rattle.vms_words.specs.declared.spots.Spot.TheVariants.{Threshold}
 use Rattle.vms_words.specs.Common.{IsControlPass, kept_sets, with_kept_threshold, place_in, told}
 use Rattle.vms_words.specs.Shown.{shown}
 use Rattle.vms_words.specs.Spots.{blocks_of}
 use Rattle.vms_words.proofs.ControlPasses.{IsControlPass-made, worker-of, worker-knows}
-use Rattle.vms_words.proofs.InTables.{may-at, of-facts}
+use Rattle.vms_words.proofs.InTables.{may-at, of-layout}
 use Rattle.vms_words.proofs.ThresholdSteps.{threshold-may}
 use Rattle.vms_words.proofs.tables.PageTable.set_threshold.Goals as goal
 
@@ -23,11 +23,11 @@ swap_at-requires-clause-step c =
     let number : c.sets_at-number.result
     ≡ threshold_sets_at (state_after pass.facts pass.seen) cpu.number place.number =
     c.sets_at-number.ensures
-    ∙ ap (λ (facts : Facts). kept_sets facts.layout c.pass.inside.kept cpu.number place.number)
-    (of-facts c.self.inside.facts c.self.inside.blocks c.self.inside.words c.args.self.now pass c.self.invariant
+    ∙ ap (λ (shape : Shape). kept_sets shape c.pass.inside.kept cpu.number place.number)
+    (of-layout c.self.inside.layout c.self.inside.blocks c.self.inside.words c.args.self.now pass c.self.invariant
     c.self.view_is of)
     ∙ c.pass.invariant.knows.threshold_sets cpu.number place.number sets.cpu sets.place in
-    may-at c.self.inside.facts c.self.inside.blocks c.self.inside.words c.args.self.now pass c.self.invariant
+    may-at c.self.inside.layout c.self.inside.blocks c.self.inside.words c.args.self.now pass c.self.invariant
     c.self.view_is of (Threshold cpu place) c.place_of-at.result c.place_of-at.ensures.value
     (λ n. c.threshold_word-word.result) (told (SetT cpu place c.args.t))
     (subst
@@ -42,9 +42,9 @@ invariant_of-pass c =
     let of = worker-of pass c.args.pass.now c.args.self.now c.pass.view_is c.requires.table in
     subst (IsControlPass c.swap_at.new.self)
     (sym (c.keep_threshold.ensures
-    ∙ ap (λ (facts : Facts). with_kept_threshold facts.layout c.args.cpu.number c.args.place.number c.args.t
+    ∙ ap (λ (shape : Shape). with_kept_threshold shape c.args.cpu.number c.args.place.number c.args.t
     c.pass.inside.kept)
-    (of-facts c.self.inside.facts c.self.inside.blocks c.self.inside.words c.args.self.now pass c.self.invariant
+    (of-layout c.self.inside.layout c.self.inside.blocks c.self.inside.words c.args.self.now pass c.self.invariant
     c.self.view_is of)))
     (IsControlPass-made c.swap_at.new.self pass c.pass.inside.kept (SetT c.args.cpu c.args.place c.args.t)
     c.pass.invariant c.swap_at.ensures)

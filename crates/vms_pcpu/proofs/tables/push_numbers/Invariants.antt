@@ -1,6 +1,0 @@
-use Rattle.std.proofs.Common.{◌≡◌, ◌++◌, map, take}
-use Rattle.vms_history.specs.Common.{word_of}
-use Rattle.vms_pcpu.proofs.tables.push_numbers.Given as goal
-
-abbrev pub invariant-loop-number : goal.invariant-loop-number
-invariant-loop-number l = l.words.items ≡ l.fn.words.items ++ map word_of (take l.number-index l.numbers)
