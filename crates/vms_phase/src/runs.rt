@@ -2,7 +2,9 @@ ghost use Rattle.std.specs.Prelude.{◌≡◌, [], List, IfOk, length, map};
 ghost use Rattle.vms_answers.specs.Common.{NumberedAnswer};
 ghost use Rattle.vms_world.specs.Common.{Header as HeaderOf, IsHeader, Fits, Start, Item, Lane, lanes_of, AreComplete};
 ghost use Rattle.vms_file_order.specs.Common.{IsStartOf};
+ghost use Rattle.vms_phase.specs.declared.jobs.LaneJob.{LaneJob};
 ghost use Rattle.vms_phase.specs.declared.lane_joins.JoinedLane.{JoinedLane as JoinedLaneOf};
+ghost use Rattle.vms_phase.specs.Jobs.{HaveBegunOf, HaveRunJobs};
 ghost use Rattle.vms_phase.specs.JoinedLanes.{AreTold, HaveJoinedLanes, seen_by, told_of};
 ghost use Rattle.vms_phase.specs.LanePasses.{HaveEnded};
 ghost use Rattle.vms_phase.specs.LanesMade.{AreMadeByLanes};
@@ -10,12 +12,13 @@ ghost use Rattle.vms_tables.specs.declared.tables.Tables.{Tables as TablesOf};
 ghost use Rattle.vms_tables.specs.Common.{AreFrom, HaveSeenNothing, TablePasses, mains_of, AreMadeFrom, AreTables};
 ghost use Rattle.vms_world.specs.declared.worlds.World.{World as WorldOf};
 
-use crate::jobs::begin_lanes;
+use crate::jobs::{LaneDone, begin_lanes};
 use crate::joins::lanes_go_in_turn;
 use crate::lane_joins::{JoinedLane, join_lanes};
 use crate::plans::Plan;
 use crate::rules::Least;
 use crate::threads::run_jobs;
+use std::alloc::Global;
 use std::sync::Wait;
 use std::thread::Threads;
 use vms_base::{Header, Memory};
@@ -46,7 +49,6 @@ pub fn run_lanes<R: Threads + Wait + Sync, G: Gate, N: Rule + Sync, P: Rule + Sy
         (N.answers rules.now.normal) tables.now world.now script.now (lanes_of header.now.layout script.now)
         (mains_of mains.new) joined.items []) }
 {
-    lanes_go_in_turn::<Least>();
     let lines = CountedLines::of(host.alloc, header, script)?;
     let plan = Plan {
         header,
@@ -56,7 +58,29 @@ pub fn run_lanes<R: Threads + Wait + Sync, G: Gate, N: Rule + Sync, P: Rule + Sy
     };
     let jobs = begin_lanes(host.alloc, &plan, mains)?;
     let results = run_jobs(host, tables, header, rules, jobs)?;
-    join_lanes(host.alloc, &plan, rules, mains, results)
+    join_run_jobs(host.alloc, &plan, rules, mains, results)
+}
+
+/// Ends the passes of the lanes of a plan, whose jobs were run with these results, in their order. Returns the lanes. If
+/// no memory was found for a lane, so it is here.
+pub fn join_run_jobs<N: Rule, P: Rule>(
+    alloc: Global,
+    plan: &Plan<'_>,
+    rules: &Rules<N, P>,
+    mains: &mut MainPasses,
+    results: Vec<Result<LaneDone, Memory>>,
+) -> Result<Vec<JoinedLane>, Memory>
+    requires made { AreMadeFrom plan.now.world.now plan.now.tables.now }
+    requires run { (jobs : List LaneJob)
+        × HaveBegunOf plan.now (lanes_of plan.now.header.now.layout plan.now.lines.now) (mains_of mains.old) jobs
+        × HaveRunJobs plan.now.header.now (P.answers rules.now.pressure) (N.answers rules.now.normal)
+        plan.now.tables.now jobs results.items }
+    ensures { IfOk result (λ joined. HaveJoinedLanes plan.now.header.now (P.answers rules.now.pressure)
+        (N.answers rules.now.normal) plan.now.tables.now plan.now.world.now plan.now.lines.now
+        (lanes_of plan.now.header.now.layout plan.now.lines.now) (mains_of mains.new) joined.items []) }
+{
+    lanes_go_in_turn::<Least>();
+    join_lanes(alloc, plan, rules, mains, results)
 }
 
 /// Where the main passes have ended all lanes that have lines, what they have seen was made by these lanes, which were

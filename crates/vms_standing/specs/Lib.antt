@@ -1,4 +1,3 @@
 pub mod Replying
 pub mod Pairs
-pub mod Works
 pub mod Common

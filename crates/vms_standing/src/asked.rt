@@ -1,4 +1,4 @@
-use crate::{Answers, Reply};
+use crate::{Answers, Reply, Work};
 use crossbeam_channel::Receiver;
 use std::alloc::Global;
 use std::marker::Model;
@@ -24,7 +24,6 @@ impl<J, D: Answers<J>> Model for Asked<J, D> {
 
 ghost use Rattle.std.specs.Prelude.{◌≡◌};
 ghost use Rattle.std.specs.Arc.{arc_value};
-ghost use Rattle.vms_standing.specs.Works.{Makes};
 
 impl<J: Drop, D: Answers<J> + Drop> Asked<J, D> {
     /// A job that may be made, with the place for its answer.
@@ -37,23 +36,19 @@ impl<J: Drop, D: Answers<J> + Drop> Asked<J, D> {
     }
 
     /// Makes the job, and puts what it gives into its place.
-    pub fn answer<F: Fn(J) -> D>(self, work: &F)
-        requires { Makes D.asks D.answers F.Fn work.now }
-    {
+    pub fn answer<W: Work<J, D>>(self, work: &W) {
         let Asked { job, reply } = self;
-        let done = work(job);
+        let done = work.make(job);
         reply.put(done);
     }
 }
 
 /// What a thread does: it answers jobs until no more can come.
-pub(crate) fn serve<R: Wait, J: Drop, D: Answers<J> + Drop, F: Fn(J) -> D>(
+pub(crate) fn serve<R: Wait, J: Drop, D: Answers<J> + Drop, W: Work<J, D>>(
     rt: &R,
-    work: &F,
+    work: &W,
     jobs: &Receiver<Asked<J, D>>,
-)
-    requires { Makes D.asks D.answers F.Fn work.now }
-{
+) {
     for _ in rt.forever() {
         let Ok(asked) = jobs.recv(rt) else {
             return;

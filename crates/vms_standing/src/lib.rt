@@ -3,11 +3,15 @@
 #![tactic(auto)]
 
 mod asked;
+mod crews;
 mod replies;
 mod rules;
+mod scopes;
 mod threads;
 
 pub use asked::Asked;
+pub use crews::Crew;
 pub use replies::Reply;
-pub use rules::{Answers, Replied};
-pub use threads::StandingThreads;
+pub use rules::{Answers, Replied, Work};
+pub use scopes::{InScope, Starts, run_in_scope};
+pub use threads::{JobQueue, StandingThreads, no_threads, start};

@@ -1,8 +1,10 @@
 use crate::rules::{Answers, Finds, Gives, Opens, Replied};
 use atomic_table::Table;
 use std::alloc::{AllocError, Global};
+use std::hint::spin_loop;
 use std::marker::Model;
 use std::sync::Wait;
+use std::sync::atomic::{AtomicU64, Ordering};
 
 /// Nothing was put yet.
 const EMPTY: u64 = 0;
@@ -13,11 +15,16 @@ const BUSY: u64 = 1;
 /// An answer lies in the slot.
 const FULL: u64 = 2;
 
+/// How often who waits for an answer looks for it before it sleeps.
+const LOOKS: u32 = 100;
+
 /// A place for the answer to one job. Contracts see that job in it: the key of its table, which is fixed when the place
 /// is made. It has a word and a slot.
 #[derive(Drop)]
 pub struct Reply<J, D: Answers<J>> {
     table: Table<Option<D>, J, J, Replied<D>, Global>,
+    /// How many times someone was about to sleep until the answer comes.
+    sleeps: AtomicU64,
 }
 
 impl<J, D: Answers<J>> Model for Reply<J, D> {
@@ -39,7 +46,10 @@ impl<J, D: Answers<J> + Drop> Reply<J, D> {
         ensures { IfOk result (λ reply. reply ≡ job.now) }
     {
         let (table, _) = Table::vacant(alloc, &[EMPTY], 1, job)?;
-        Ok(Reply { table })
+        Ok(Reply {
+            table,
+            sleeps: AtomicU64::new(0),
+        })
     }
 
     /// Puts an answer of the job in, and wakes who waits for it. Where one was put before, this one is dropped.
@@ -51,7 +61,10 @@ impl<J, D: Answers<J> + Drop> Reply<J, D> {
         if found == EMPTY {
             drop(shared.exchange(&mut seat, 0, Some(done)));
             shared.store::<Gives>(&mut seat, 0, FULL);
-            shared.wake_one(0);
+            // Who sleeps was counted before it looked at the word for the last time.
+            if self.sleeps.load(Ordering::SeqCst) != 0 {
+                shared.wake_one(0);
+            }
         }
     }
 
@@ -60,7 +73,9 @@ impl<J, D: Answers<J> + Drop> Reply<J, D> {
         ensures { D.answers self.now result }
     {
         let shared = &self.table.shared;
+        self.look();
         for _ in rt.forever() {
+            self.sleeps.fetch_add(1, Ordering::SeqCst);
             match shared.peek(0) {
                 FULL => {
                     let (found, mut seat) = shared.swap_new_seat::<Finds<D>>(0, BUSY);
@@ -73,5 +88,15 @@ impl<J, D: Answers<J> + Drop> Reply<J, D> {
             }
         }
         unreachable!()
+    }
+
+    /// Looks for the answer for a short time.
+    fn look(&self) {
+        for _ in 0..LOOKS {
+            if self.table.shared.peek(0) == FULL {
+                return;
+            }
+            spin_loop();
+        }
     }
 }

@@ -10,6 +10,13 @@ pub trait Answers<J> {
     ghost answers: { J → Self → Type 0 };
 }
 
+/// What makes jobs, on any thread.
+pub trait Work<J, D: Answers<J>> {
+    fn make(&self, job: J) -> D
+        requires { D.asks job }
+        ensures { D.answers job result };
+}
+
 /// The rule: an answer that lies in the slot is one of the job.
 pub struct Replied<D> {
     of: PhantomData<D>,

@@ -1,99 +1,93 @@
 ghost use Rattle.std.specs.Prelude.{◌≡◌, All, IfOk};
 ghost use Rattle.std.specs.Arc.{arc_value};
 ghost use Rattle.vms_standing.specs.Pairs.{Pairs};
-ghost use Rattle.vms_standing.specs.Works.{Makes};
 
 use crate::asked::serve;
-use crate::{Answers, Asked, Reply};
-use crossbeam_channel::Sender;
+use crate::{Answers, Asked, Reply, Starts, Work};
+use crossbeam_channel::{Receiver, Sender};
 use std::alloc::{AllocError, Global};
 use std::sync::{Arc, Wait};
-use std::thread;
-use std::thread::{JoinHandle, Threads};
+use std::thread::Scope;
 
-/// A thread that stands, with the queue of its jobs.
+/// The queue from which threads that stand take jobs. Where there was no memory for it no thread is started.
 #[derive(Drop)]
-struct Standing<J, D: Answers<J>> {
-    jobs: Sender<Asked<J, D>>,
-    thread: JoinHandle<()>,
+pub struct JobQueue<J, D: Answers<J>> {
+    jobs: Option<Receiver<Asked<J, D>>>,
 }
 
-/// Threads that stand: each waits for jobs until it is ended, and sleeps while it waits. What makes a job is a closure.
+/// Threads that stand: each waits for jobs until this is dropped, and sleeps while it waits.
 #[derive(Drop)]
 pub struct StandingThreads<J, D: Answers<J>> {
-    threads: Vec<Standing<J, D>>,
+    count: usize,
+    jobs: Option<Sender<Asked<J, D>>>,
 }
 
-impl<J: Drop + Send + 'static, D: Answers<J> + Drop + Send + 'static> StandingThreads<J, D> {
-    /// No thread stands yet.
-    pub fn new(alloc: Global) -> StandingThreads<J, D> {
-        StandingThreads {
-            threads: Vec::new(alloc),
-        }
-    }
+/// A queue, and the threads that take jobs from it, of which none stands yet.
+pub fn no_threads<J: Drop, D: Answers<J> + Drop>(
+    alloc: Global,
+) -> (StandingThreads<J, D>, JobQueue<J, D>) {
+    let (jobs, queue) = match crossbeam_channel::unbounded(alloc) {
+        Ok((jobs, queue)) => (Some(jobs), Some(queue)),
+        Err(_) => (None, None),
+    };
+    (StandingThreads { count: 0, jobs }, JobQueue { jobs: queue })
+}
 
-    /// Sees that so many threads stand, unless one can't be made.
-    pub fn grow<R, F>(
-        &mut self,
-        rt: &R,
-        alloc: Global,
-        work: &Arc<F, Global>,
-        count: usize,
-    ) -> Result<(), AllocError>
-    where
-        R: Threads + Wait + Copy + Send + 'static,
-        F: Fn(J) -> D + Drop + Send + Sync + 'static,
-        requires { Makes D.asks D.answers F.Fn (arc_value work.now) }
+/// Starts a thread that makes the jobs of a queue until no more can come, and says whether it did. It stands while the
+/// scope is open.
+pub fn start<'s, E, R, W, J, D>(
+    scope: &'s Scope<'s, E>,
+    rt: &'s R,
+    work: &'s W,
+    queue: &'s JobQueue<J, D>,
+) -> bool
+where
+    R: Wait + Sync,
+    J: Drop + Send + 's,
+    D: Answers<J> + Drop + Send + 's,
+    W: Work<J, D> + Sync,
+{
+    match &queue.jobs {
+        Some(jobs) => scope.spawn(move || serve(rt, work, jobs)).is_ok(),
+        None => false,
+    }
+}
+
+impl<J: Drop, D: Answers<J> + Drop> StandingThreads<J, D> {
+    /// Sees that so many threads stand, unless one can't be made. The closure starts one (`start`), and says whether it
+    /// did.
+    pub fn grow<'s, E, C: Starts<E>>(&mut self, scope: &'s Scope<'s, E>, begin: &C, count: usize)
+        requires { C.may_start begin.now }
     {
-        for _ in self.threads.len()..count {
-            self.threads.reserve(1)?;
-            let (jobs, from) = crossbeam_channel::unbounded(alloc)?;
-            let work = Arc::try_clone(work)?;
-            let host = *rt;
-            let Ok(thread) = thread::spawn(
-                rt,
-                move ||
-                    requires { Makes D.asks D.answers F.Fn (arc_value work) }
-                { serve(&host, &*work, &from) },
-            ) else {
-                return Ok(());
-            };
-            self.threads.push_reserved(Standing { jobs, thread });
-        }
-        Ok(())
-    }
-
-    /// Ends the threads, each after the jobs that it was handed.
-    pub fn end<R: Threads>(self, rt: &R) {
-        for standing in self.threads {
-            let Standing { jobs, thread } = standing;
-            drop(jobs);
-            thread.join(rt);
+        for number in self.count..count {
+            if !begin.start_one(scope) {
+                return;
+            }
+            self.count = number + 1;
         }
     }
 
-    /// Hands a job to the thread of this number, and returns the place for its answer. Where no such thread stands, or
-    /// its queue takes nothing more, the job is made here.
-    fn ask<R: Wait, F: Fn(J) -> D>(
+    /// Hands the job of this number to the threads, and returns the place for its answer. Where so many threads don't
+    /// stand, or the queue takes nothing more, the job is made here.
+    fn ask<R: Wait, W: Work<J, D>>(
         &self,
         rt: &R,
         alloc: Global,
-        work: &F,
+        work: &W,
         number: usize,
         job: J,
     ) -> Result<Arc<Reply<J, D>, Global>, AllocError>
-        requires work { Makes D.asks D.answers F.Fn work.now }
-        requires may { D.asks job }
+        requires { D.asks job }
         ensures { IfOk result (λ reply. arc_value reply ≡ job) }
     {
         let reply = Arc::new(alloc, Reply::to(alloc, &job)?)?;
         let asked = Asked::of(job, Arc::try_clone(&reply)?);
-        let refused = match self.threads.get(number) {
-            Some(standing) => match standing.jobs.send(rt, asked) {
+        let refused = match &self.jobs {
+            Some(jobs) if number < self.count => match jobs.send(rt, asked) {
                 Ok(()) => None,
                 Err(refused) => Some(refused.into_inner()),
             },
-            None => Some(asked),
+            _ => Some(asked),
         };
         if let Some(asked) = refused {
             asked.answer(work);
@@ -103,37 +97,35 @@ impl<J: Drop + Send + 'static, D: Answers<J> + Drop + Send + 'static> StandingTh
 
     /// Has jobs made: the last here, and each other by a thread of its own where one stands. Returns what they give, in
     /// their order.
-    pub fn make_all<R: Wait, F: Fn(J) -> D>(
+    pub fn make_all<R: Wait, W: Work<J, D>>(
         &self,
         rt: &R,
         alloc: Global,
-        work: &F,
+        work: &W,
         mut jobs: Vec<J>,
     ) -> Result<Vec<D>, AllocError>
-        requires work { Makes D.asks D.answers F.Fn work.now }
-        requires may { All D.asks jobs.items }
+        requires { All D.asks jobs.items }
         ensures { IfOk result (λ results. Pairs D.answers jobs.items results.items) }
     {
         let Some(last) = jobs.pop() else {
             return Ok(Vec::new(alloc));
         };
         let replies = self.ask_all(rt, alloc, work, jobs)?;
-        let done = work(last);
+        let done = work.make(last);
         let mut results = take_all(rt, alloc, replies)?;
         results.push(done)?;
         Ok(results)
     }
 
     /// Hands each job to a thread of its own.
-    fn ask_all<R: Wait, F: Fn(J) -> D>(
+    fn ask_all<R: Wait, W: Work<J, D>>(
         &self,
         rt: &R,
         alloc: Global,
-        work: &F,
+        work: &W,
         jobs: Vec<J>,
     ) -> Result<Vec<Arc<Reply<J, D>, Global>>, AllocError>
-        requires work { Makes D.asks D.answers F.Fn work.now }
-        requires may { All D.asks jobs.items }
+        requires { All D.asks jobs.items }
         ensures { IfOk result (λ replies. Pairs (λ job reply. arc_value reply ≡ job) jobs.items replies.items) }
     {
         let mut replies = Vec::new(alloc);

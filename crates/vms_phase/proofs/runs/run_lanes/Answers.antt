@@ -1,4 +1,4 @@
--- All lanes have begun, none has ended, and each result is of its lane.
+-- The lines of a script that fits are of lanes, and the counted lines are those of the script.
 use Rattle.std.proofs.Common.{List, [], subst, sym}
 use Rattle.std.specs.Prelude.{IfOk}
 use Rattle.std.proofs.lemmas.List.Elements.{All-weaker}
@@ -6,7 +6,6 @@ use Rattle.vms_tables.specs.Common.{mains_of}
 use Rattle.vms_world.specs.Common.{Fits, IsLaneOf, IsLineOf, Item, Start, lanes_of, line_of}
 use Rattle.vms_file_order.specs.Common.{IsStartOf}
 use Rattle.vms_phase.specs.Common.{HaveJoinedLanes}
-use Rattle.vms_phase.proofs.JoinedLanes.{HaveJoinedLanes-none, HaveRunLanes-jobs}
 use Rattle.vms_phase.proofs.runs.run_lanes.Goals as goal
 
 pub of-requires : goal.of-requires
@@ -24,27 +23,14 @@ begin_lanes-requires-clause-start g c =
     subst (λ (items : List Item). (start : Start) × IsStartOf header start w × Fits header start items)
     (sym c.in_ok-lines.ensures) c.requires.start
 
-pub join_lanes-requires : goal.join_lanes-requires
-join_lanes-requires g c =
-    let header = c.args.header.now in
-    let tables = c.args.tables.now in
-    let w = c.args.world.now in
-    let items = c.in_ok-lines.lines in
-    let pressure = g.P.Rule.answers c.args.rules.now.pressure in
-    let normal = g.N.Rule.answers c.args.rules.now.normal in
-    let lanes = lanes_of header.layout items in
-    let mains = mains_of c.begin_lanes.new.mains in
-    let begun = c.in_ok-jobs.ensures in
-    HaveJoinedLanes-none header pressure normal tables w items lanes mains c.in_ok-results.results.items begun.of
-    (c.lanes_go_in_turn.ensures.none lanes mains begun.begun)
-    (HaveRunLanes-jobs header pressure normal tables w items c.requires.made 1 lanes c.in_ok-jobs.jobs.items
-    c.in_ok-results.results.items begun.each c.in_ok-results.ensures)
+pub join_run_jobs-requires-clause-run : goal.join_run_jobs-requires-clause-run
+join_run_jobs-requires-clause-run g c = (c.in_ok-jobs.jobs.items, c.in_ok-jobs.ensures, c.in_ok-results.ensures)
 
 pub returns : goal.returns
 returns g c =
     let header = c.args.header.now in
     let pressure = g.P.Rule.answers c.args.rules.now.pressure in
     let normal = g.N.Rule.answers c.args.rules.now.normal in
-    subst (λ (items : List Item). IfOk c.join_lanes.result (λ joined. HaveJoinedLanes header pressure normal
-    c.args.tables.now c.args.world.now items (lanes_of header.layout items) (mains_of c.join_lanes.new.mains)
-    joined.items [])) c.in_ok-lines.ensures c.join_lanes.ensures
+    subst (λ (items : List Item). IfOk c.join_run_jobs.result (λ joined. HaveJoinedLanes header pressure normal
+    c.args.tables.now c.args.world.now items (lanes_of header.layout items) (mains_of c.join_run_jobs.new.mains)
+    joined.items [])) c.in_ok-lines.ensures c.join_run_jobs.ensures

@@ -9,7 +9,7 @@ use Rattle.vms_phase.proofs.JoinedPhases.{all-joined}
 use Rattle.vms_phase.proofs.KeptVolumes.{own-all, volumes-given_back}
 use Rattle.vms_phase.proofs.SideBySide.{closed-complete, closed-facts, closed-seen, closed-tables, shaped-there}
 use Rattle.vms_phase.proofs.SideBySide.{words-there}
-use Rattle.vms_phase.proofs.side_by_side.run_and_close.Goals as goal
+use Rattle.vms_phase.proofs.side_by_side.close_lanes.Goals as goal
 
 pub close-histories-requires-clause-ended : goal.close-histories-requires-clause-ended
 close-histories-requires-clause-ended g c =
@@ -17,9 +17,9 @@ close-histories-requires-clause-ended g c =
     let tables = c.args.tables in
     let w = c.args.world.now in
     let items = c.args.script.now in
-    let mains = mains_of c.run_lanes.new.mains in
-    let joined = c.in_ok-lanes.lanes.items in
-    let have = c.in_ok-lanes.ensures in
+    let mains = mains_of c.args.mains in
+    let joined = c.args.lanes.items in
+    let have = c.requires.joined in
     let start = c.requires.start in
     c.fitting_lanes_have_ended.ensures header tables w start.0 items mains c.requires.tables c.requires.from have.of
     start.1 start.2 (c.joined_lanes_are_made.ensures.ended header tables w items mains joined have)
@@ -39,9 +39,9 @@ returns-clause-made g c told tells =
     let tables = c.args.tables in
     let w = c.args.world.now in
     let items = c.args.script.now in
-    let mains = mains_of c.run_lanes.new.mains in
-    let joined = c.in_ok-lanes.lanes.items in
-    let have = c.in_ok-lanes.ensures in
+    let mains = mains_of c.args.mains in
+    let joined = c.args.lanes.items in
+    let have = c.requires.joined in
     let closed = c.close-histories.result in
     let ends = c.close-histories.ensures in
     let all = c.are_complete.ensures in
@@ -56,18 +56,18 @@ returns-clause-made g c told tells =
 pub returns-clause-lanes : goal.returns-clause-lanes
 returns-clause-lanes g c =
     c.joined_lanes_are_made.ensures.lanes c.args.header.now c.args.tables c.args.world.now c.args.script.now
-    (mains_of c.run_lanes.new.mains) c.in_ok-lanes.lanes.items c.in_ok-lanes.ensures
+    (mains_of c.args.mains) c.args.lanes.items c.requires.joined
 
 pub returns-clause-told : goal.returns-clause-told
 returns-clause-told g c =
     c.joined_lanes_are_made.ensures.told c.args.header.now c.args.tables c.args.world.now c.args.script.now
-    (mains_of c.run_lanes.new.mains) c.in_ok-lanes.lanes.items c.in_ok-lanes.ensures
+    (mains_of c.args.mains) c.args.lanes.items c.requires.joined
 
 pub returns-clause-tables : goal.returns-clause-tables
 returns-clause-tables g c =
     let ends = c.close-histories.ensures in
     let closed = closed-tables c.args.header.now c.args.tables c.args.world.now c.requires.tables c.requires.from
-    (mains_of c.run_lanes.new.mains) c.close-histories.result ends.page_history ends.event_history ends.pcpu_history
+    (mains_of c.args.mains) c.close-histories.result ends.page_history ends.event_history ends.pcpu_history
     c.close-histories.new.world ends.pages ends.events ends.counters in
     record { pages = closed.pages; events = closed.events; counters = closed.counters }
 
@@ -75,7 +75,7 @@ pub returns-clause-facts : goal.returns-clause-facts
 returns-clause-facts g c =
     let ends = c.close-histories.ensures in
     let facts = closed-facts c.args.header.now c.args.tables c.args.world.now c.requires.tables c.requires.from
-    (mains_of c.run_lanes.new.mains) c.close-histories.result ends.page_history ends.event_history
+    (mains_of c.args.mains) c.close-histories.result ends.page_history ends.event_history
     ends.pcpu_history in
     record { pages = facts.pages; events = facts.events; counters = facts.counters }
 
@@ -95,10 +95,10 @@ keep_volumes-requires-clause-own g c =
     let items = c.args.script.now in
     let pressure = g.P.Rule.answers c.args.rules.now.pressure in
     let normal = g.N.Rule.answers c.args.rules.now.normal in
-    let mains = mains_of c.run_lanes.new.mains in
-    let joined = c.in_ok-lanes.lanes.items in
+    let mains = mains_of c.args.mains in
+    let joined = c.args.lanes.items in
     let all = all-joined header pressure normal c.args.tables w items mains (lanes_of header.layout items) joined
-    c.in_ok-lanes.ensures in
+    c.requires.joined in
     subst (All (λ (one : JoinedLane). HasOwn header one.lane one.volumes)) (sym c.as_slice.ensures.value)
     (own-all header pressure normal w items mains joined all.each)
 
@@ -109,10 +109,10 @@ returns-clause-volumes g c =
     let items = c.args.script.now in
     let pressure = g.P.Rule.answers c.args.rules.now.pressure in
     let normal = g.N.Rule.answers c.args.rules.now.normal in
-    let mains = mains_of c.run_lanes.new.mains in
-    let joined = c.in_ok-lanes.lanes.items in
+    let mains = mains_of c.args.mains in
+    let joined = c.args.lanes.items in
     let all = all-joined header pressure normal c.args.tables w items mains (lanes_of header.layout items) joined
-    c.in_ok-lanes.ensures in
+    c.requires.joined in
     let new = c.keep_volumes.new.volumes in
     volumes-given_back header pressure normal w items mains joined new all.each
     (subst (λ (lanes : List JoinedLane). AreGivenBack header lanes new w.volumes) c.as_slice.ensures.value

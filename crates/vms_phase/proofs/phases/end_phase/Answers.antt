@@ -7,7 +7,7 @@ use Rattle.vms_answers.specs.Common.{told_by}
 use Rattle.vms_answers.proofs.Common.{merged-everywhere}
 use Rattle.vms_phase.specs.Common.{told_of, histories_of}
 use Rattle.vms_phase.proofs.PlacedAnswers.{lanes-known, places-known}
-use Rattle.vms_phase.proofs.phases.run_phase.Goals as goal
+use Rattle.vms_phase.proofs.phases.end_phase.Goals as goal
 
 -- the lanes of lines that fit are lanes of the header
 items-known : (header : Header) (start : Start) (items : List Item) → Fits header start items
@@ -18,14 +18,14 @@ items-known header start items fits =
 
 pub place_answers-requires : goal.place_answers-requires
 place_answers-requires g c = record {
-  known = lanes-known c.args.header.now c.args.script.now c.in_ok-lanes.field-0.lanes.items c.in_ok-lanes.ensures.lanes;
+  known = lanes-known c.args.header.now c.args.script.now c.close_lanes-lanes.result.lanes.items c.close_lanes-lanes.ensures.lanes;
 }
 
 pub returns-clause-world : goal.returns-clause-world
 returns-clause-world g c =
-    let ends = c.in_ok-lanes.ensures in
+    let ends = c.close_lanes-lanes.ensures in
     c.fitting_lanes_make_phases.ensures.left c.args.header.now c.args.world c.args.script.now
-    (histories_of c.in_ok-lanes.field-0.histories) c.make_side_by_side.new.world
+    (histories_of c.close_lanes-lanes.result.histories) c.close_lanes-lanes.new.world
     (record {
       pages = ends.tables.pages;
       events = ends.tables.events;
@@ -33,13 +33,27 @@ returns-clause-world g c =
       volumes = ends.volumes;
     })
 
+pub returns-clause-phase : goal.returns-clause-phase
+returns-clause-phase g c =
+    let made = c.close_lanes-lanes.result in
+    let ends = c.close_lanes-lanes.ensures in
+    let told = told_of made.lanes.items in
+    c.lanes_make_phases_by.ensures.makes c.args.header.now c.args.world c.args.script.now (histories_of made.histories)
+    told (ends.made told ends.told)
+
 pub returns-clause-answers : goal.returns-clause-answers
 returns-clause-answers g c =
-    c.in_ok-lanes.ensures.answers
-    ∙ merged-everywhere c.args.script.now (told_of c.in_ok-lanes.field-0.lanes.items)
-    (told_by c.in_ok-lanes-2.lanes.items) (λ lane. sym (c.in_ok-lanes-2.ensures.told lane))
+    let made = c.close_lanes-lanes.result in
+    let ends = c.close_lanes-lanes.ensures in
+    let told = told_of made.lanes.items in
+    let header = c.args.header.now in
+    let items = c.args.script.now in
+    let start = c.requires.start in
+    c.lanes_make_phases_by.ensures.answers header c.args.world items (histories_of made.histories) told
+    (ends.made told ends.told) start.2.ascend (items-known header start.0 items start.2)
+    ∙ merged-everywhere items told (told_by c.in_ok-lanes.lanes.items) (λ lane. sym (c.in_ok-lanes.ensures.told lane))
 
 pub returns-clause-places : goal.returns-clause-places
 returns-clause-places g c =
-    places-known c.args.header.now c.in_ok-lanes-2.lanes.items c.args.script.now c.in_ok-lanes-2.ensures.one_each
+    places-known c.args.header.now c.in_ok-lanes.lanes.items c.args.script.now c.in_ok-lanes.ensures.one_each
     (items-known c.args.header.now c.requires.start.0 c.args.script.now c.requires.start.2)
