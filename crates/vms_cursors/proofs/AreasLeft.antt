@@ -16,7 +16,8 @@ module _ (items : List ItemDecl) where
   areas-left order some = areas_from-later items order 1 area_names some
 
   areas-next : (order : ℕ) → 1 ≤ order → order ≤ 10
-      → areas_left order ≡ area_at order (area_index items order) ++ areas_named items (suc order) (drop order area_names)
+      → areas_left order
+      ≡ area_at order (area_index items order) ++ areas_named items (suc order) (drop order area_names)
   areas-next order least most =
       let before : suc (order - 1) ≡ order = omega arith in
       let within : order - 1 < length area_names = omega arith in

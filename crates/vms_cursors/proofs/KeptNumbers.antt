@@ -17,7 +17,8 @@ module _ (test : ℕ → Bool) where
   chosen false x xs rest = refl
 
   -- one number more at the end
-  pub kept-last : (k n : ℕ) → kept_from test k (suc n) ≡ kept_from test k n ++ (if test (k + n) then (k + n) ∷ [] else [])
+  pub kept-last : (k n : ℕ) → kept_from test k (suc n)
+      ≡ kept_from test k n ++ (if test (k + n) then (k + n) ∷ [] else [])
   kept-last k zero = let at : k ≡ k + 0 = omega arith in ap (λ l. one l (test l)) at
   kept-last k (suc n) =
       let at : suc k + n ≡ k + suc n = omega arith in

@@ -25,5 +25,7 @@ pub mod OrderGoes
 pub mod BalanceGoes
 pub mod TurnGoes
 pub mod OpenPositions
-pub mod OpenTurns
+pub mod OpenBalances
+pub mod CursorParts
+pub mod RatingEnds
 pub mod OpenCursors

@@ -1,12 +1,12 @@
 -- The plan that is left at each position comes to no refusal, and to no question that has no answer.
 use Rattle.std.proofs.Common.{ℕ, suc, zero, ◌+◌, ◌-◌, ◌*◌, ◌/◌, ℤ, ◌+ℤ◌, Bool, true, false, List, [], ◌∷◌, ◌++◌, length}
-use Rattle.std.proofs.Common.{take, drop, subst, sym}
+use Rattle.std.proofs.Common.{take, drop}
 use Rattle.std.specs.Prelude.{None, Option, Some}
 use Rattle.vms_calls.specs.Common.{CounterId, CpuId, CpuState, Diffs, Facts, Header, History, ItemId, LoadD, LoadT}
-use Rattle.vms_calls.specs.Common.{MarkRead, Miss, PlaceId, Put, SetA, SetM, SetO, Shape, Step, Take, WaterMark}
-use Rattle.vms_calls.specs.Common.{ZoneSize, acknowledges, after, carried_by, counter_at, entry, first_of_group}
-use Rattle.vms_calls.specs.Common.{free_pages, group_of, in_turn, is_doubtful, item_count, online_from, place_count}
-use Rattle.vms_calls.specs.Common.{rating_steps, size_at, to_place}
+use Rattle.vms_calls.specs.Common.{MarkRead, Miss, PlaceId, Put, SetA, SetM, Shape, Step, Take, WaterMark, ZoneSize}
+use Rattle.vms_calls.specs.Common.{acknowledges, after, carried_by, counter_at, entry, first_of_group, free_pages}
+use Rattle.vms_calls.specs.Common.{group_of, in_turn, is_doubtful, item_count, online_from, place_count, rating_steps}
+use Rattle.vms_calls.specs.Common.{size_at, to_place}
 use Rattle.vms_calls.specs.LookReadings.{differential_told, mark_told, online_told, value_told}
 use Rattle.vms_plans.specs.declared.due_steps.DueStep.TheVariants.{Exchanges, ExchangesZeros, LoadsGroup}
 use Rattle.vms_plans.specs.declared.due_steps.DueStep.TheVariants.{LoadsThreshold, Takes}
@@ -14,8 +14,7 @@ use Rattle.vms_plans.specs.Common.{Fits, Plan, acknowledged_plan, and_then, asks
 use Rattle.vms_plans.specs.Common.{exchanged_plan, found_plan, frees_plan, groups_plan, loaded_plan, looks_plan, makes}
 use Rattle.vms_plans.specs.Common.{makes_all, mark_plan, node_steps, place_groups, place_plan, places_plan, rates_plan}
 use Rattle.vms_plans.specs.Common.{recorded, refuses, state_told, states_plan, taken_plan, tested, visit_plan}
-use Rattle.vms_plans.specs.Common.{visits_plan, refresh_plan, waits, won_plan}
-use Rattle.vms_cursors.specs.Burials.{after_burial_fold, burial_at, fold_of}
+use Rattle.vms_plans.specs.Common.{visits_plan, waits, won_plan}
 use Rattle.vms_cursors.specs.Changes.{change_at}
 use Rattle.vms_cursors.specs.Folds.{fold_at, groups_from, items_from, items_left, place_end, places_from}
 use Rattle.vms_cursors.specs.Loads.{system_at, value_at}
@@ -25,9 +24,6 @@ use Rattle.vms_cursors.specs.Ratings.{nodes_left, online_in, online_plan, rated_
 use Rattle.vms_cursors.specs.Ratings.{zone_end, zones_plan}
 use Rattle.vms_cursors.specs.Snapshots.{snapshot_at}
 use Rattle.vms_cursors.specs.Tests.{test_at}
-use Rattle.vms_cursors.specs.declared.burial_positions.BurialPosition.{BurialPosition}
-use Rattle.vms_cursors.specs.declared.burial_positions.BurialPosition.TheVariants as burial
-use Rattle.vms_cursors.specs.declared.online_cpus.OnlineCpus.{OnlineCpus}
 use Rattle.vms_cursors.specs.declared.change_positions.ChangePosition.{ChangePosition}
 use Rattle.vms_cursors.specs.declared.change_positions.ChangePosition.TheVariants as position
 use Rattle.vms_cursors.specs.declared.changes.Change.{Change}
@@ -47,7 +43,6 @@ use Rattle.vms_cursors.specs.declared.snapshot_positions.SnapshotPosition.TheVar
 use Rattle.vms_cursors.specs.declared.taken.Taken.{Taken}
 use Rattle.vms_cursors.specs.declared.test_positions.TestPosition.{TestPosition}
 use Rattle.vms_cursors.specs.declared.test_positions.TestPosition.TheVariants as test
-use Rattle.vms_cursors.proofs.RatingBegins.{refresh-begins}
 
 -- whatever the steps tell and the rules choose, a plan comes to no refusal, and what is needed of each question holds
 module _ (Needs : (ℕ → ℕ → Type 0) → Type 0) where
@@ -238,70 +233,86 @@ module _ (Needs : (ℕ → ℕ → Type 0) → Type 0) where
     nodes-open (call.Pressure n) online ts = (tt {0})
     nodes-open (call.Normal n) online ts = (tt {0})
 
-    module _ (call : RatingCall)
-        (sure : (g n : ℕ) → Needs (choice_in call pressure normal (size_at facts.sizes g) n)) where
-      rates-open : (online : List CpuId) (g m : ℕ) (h : History)
+    module _ (call : RatingCall) where
+      -- the rules answer for so many CPUs
+      abbrev pub IsSure : List CpuId → Type 0
+      IsSure online = (g : ℕ) → Needs (choice_in call pressure normal (size_at facts.sizes g) (length online))
+
+      -- and for those that are found online from a position on
+      abbrev pub IsSureAt : RatingPosition → Type 0
+      IsSureAt (States online c) = (found : List CpuState) → IsSure (flagged online.flags 0 c ++ online_from c found)
+      IsSureAt (Zones seen g) = IsSure (online_in facts p pressure normal call seen)
+      IsSureAt (Numbers seen g c) = IsSure (online_in facts p pressure normal call seen)
+      IsSureAt (Asks seen g m) = IsSure (online_in facts p pressure normal call seen)
+      IsSureAt (Mark seen g t m) = IsSure (online_in facts p pressure normal call seen)
+      IsSureAt (Thresholds seen g t c) = IsSure (online_in facts p pressure normal call seen)
+      IsSureAt (Nodes seen i c) = Unit {0}
+
+      rates-open : (online : List CpuId) → IsSure online → (g m : ℕ) (h : History)
           → IsGood (rates_plan facts p online (choice_in call pressure normal) g m h)
-      rates-open online g m h = (
-        sure g (length online),
+      rates-open online sure g m h = (
+        sure g,
         λ t usual allowed. open-makes_all (rating_steps facts p online h g m usual t) (ends t) (tt {0}),
       )
 
-      rated-open : (online : List CpuId) (g m : ℕ) (h : History)
+      rated-open : (online : List CpuId) → IsSure online → (g m : ℕ) (h : History)
           → IsGood (rated_plan facts p pressure normal call online g m h)
-      rated-open online g m h = open-either (spares call m) (ends 0)
-          (rates_plan facts p online (choice_in call pressure normal) g m h) (tt {0}) (rates-open online g m h)
+      rated-open online sure g m h = open-either (spares call m) (ends 0)
+          (rates_plan facts p online (choice_in call pressure normal) g m h) (tt {0}) (rates-open online sure g m h)
 
-      visit-open : (online : List CpuId) (g : ℕ) (h : History)
+      visit-open : (online : List CpuId) → IsSure online → (g : ℕ) (h : History)
           → IsGood (visit_plan p online (rated_plan facts p pressure normal call online) g h)
-      visit-open online g h = open-and_then (recorded p h (mark_plan g online))
+      visit-open online sure g h = open-and_then (recorded p h (mark_plan g online))
           (λ (found : MarkRead × History).
           recorded p found.1 (rated_plan facts p pressure normal call online g found.0.mark found.1))
           (open-recorded p h (mark_plan g online) (mark-open g online))
           (λ found. open-recorded p found.1 (rated_plan facts p pressure normal call online g found.0.mark found.1)
-          (rated-open online g found.0.mark found.1))
+          (rated-open online sure g found.0.mark found.1))
 
-      visits-open : (online : List CpuId) (gs ts : List ℕ) (h : History)
+      visits-open : (online : List CpuId) → IsSure online → (gs ts : List ℕ) (h : History)
           → IsGood (visits_plan p online (rated_plan facts p pressure normal call online) gs ts h)
-      visits-open online [] ts h = (tt {0})
-      visits-open online (g ∷ gs) ts h =
+      visits-open online sure [] ts h = (tt {0})
+      visits-open online sure (g ∷ gs) ts h =
           open-and_then (visit_plan p online (rated_plan facts p pressure normal call online) g h)
           (λ (visited : ℕ × History). visits_plan p online (rated_plan facts p pressure normal call online) gs
           (ts ++ (visited.0 ∷ [])) visited.1)
-          (visit-open online g h) (λ visited. visits-open online gs (ts ++ (visited.0 ∷ [])) visited.1)
+          (visit-open online sure g h) (λ visited. visits-open online sure gs (ts ++ (visited.0 ∷ [])) visited.1)
 
-      zones-open : (online : List CpuId) (before gs ts : List ℕ) (h : History)
+      pub zones-open : (online : List CpuId) → IsSure online → (before gs ts : List ℕ) (h : History)
           → IsGood (zones_plan facts p pressure normal call online before gs ts h)
-      zones-open online before gs ts h =
+      zones-open online sure before gs ts h =
           open-and_then (visits_plan p online (rated_plan facts p pressure normal call online) gs ts h)
-          (λ all. after_zones facts p call online (before ++ all)) (visits-open online gs ts h)
+          (λ all. after_zones facts p call online (before ++ all)) (visits-open online sure gs ts h)
           (λ all. nodes-open call online (before ++ all))
 
       module _ (seen : Rated) where
         abbrev online : List CpuId
         online = online_in facts p pressure normal call seen
 
-        zone_end-open : (g : ℕ) (visited : ℕ × History) → IsGood (zone_end facts p pressure normal call seen g visited)
-        zone_end-open g visited = zones-open online (take g seen.thresholds)
+        zone_end-open : IsSure online → (g : ℕ) (visited : ℕ × History)
+            → IsGood (zone_end facts p pressure normal call seen g visited)
+        zone_end-open sure g visited = zones-open online sure (take g seen.thresholds)
             (visited_from facts.layout call (g + 1) (length facts.layout.zones - (g + 1))) (visited.0 ∷ []) visited.1
 
-        sets-open : (g t : ℕ) (ks : List Step) (h : History)
+        sets-open : IsSure online → (g t : ℕ) (ks : List Step) (h : History)
             → IsGood (and_then (recorded p h (makes_all ks (ends t))) (zone_end facts p pressure normal call seen g))
-        sets-open g t ks h = open-and_then (recorded p h (makes_all ks (ends t)))
+        sets-open sure g t ks h = open-and_then (recorded p h (makes_all ks (ends t)))
             (zone_end facts p pressure normal call seen g)
-            (open-recorded p h (makes_all ks (ends t)) (open-makes_all ks (ends t) (tt {0}))) (zone_end-open g)
+            (open-recorded p h (makes_all ks (ends t)) (open-makes_all ks (ends t) (tt {0}))) (zone_end-open sure g)
 
-      pub rating-open : (h : History) (at : RatingPosition) → IsGood (rating_at facts p pressure normal call h at)
-      rating-open h (States online c) =
+      pub rating-open : (h : History) (at : RatingPosition) → IsSureAt at
+          → IsGood (rating_at facts p pressure normal call h at)
+      rating-open h (States online c) sure =
           open-and_then (recorded p h (states_plan c (facts.layout.cpus - c) []))
           (λ (found : List CpuState × History).
           online_plan facts p pressure normal call (flagged online.flags 0 c ++ online_from c found.0) found.1)
           (open-recorded p h (states_plan c (facts.layout.cpus - c) []) (states-open c (facts.layout.cpus - c) []))
-          (λ found. zones-open (flagged online.flags 0 c ++ online_from c found.0) []
+          (λ found. zones-open (flagged online.flags 0 c ++ online_from c found.0) (sure found.0) []
           (visited_from facts.layout call 0 (length facts.layout.zones)) [] found.1)
-      rating-open h (Zones seen g) = zones-open (online_in facts p pressure normal call seen) (take g seen.thresholds)
+      rating-open h (Zones seen g) sure =
+          zones-open (online_in facts p pressure normal call seen) sure (take g seen.thresholds)
           (visited_from facts.layout call g (length facts.layout.zones - g)) [] h
-      rating-open h (Numbers seen g c) =
+      rating-open h (Numbers seen g c) sure =
           let cs : List CpuId = flagged seen.online.flags c (facts.layout.cpus - c) in
           let online : List CpuId = online_in facts p pressure normal call seen in
           open-and_then (recorded p h (mark_plan g cs)) (λ (found : MarkRead × History).
@@ -312,34 +323,17 @@ module _ (Needs : (ℕ → ℕ → Type 0) → Type 0) where
           (recorded p found.1 (rated_plan facts p pressure normal call online g found.0.mark found.1))
           (zone_end facts p pressure normal call seen g)
           (open-recorded p found.1 (rated_plan facts p pressure normal call online g found.0.mark found.1)
-          (rated-open online g found.0.mark found.1)) (zone_end-open seen g))
-      rating-open h (Asks seen g m) =
+          (rated-open online sure g found.0.mark found.1)) (zone_end-open seen sure g))
+      rating-open h (Asks seen g m) sure =
           let online : List CpuId = online_in facts p pressure normal call seen in
           let rates : Plan ℕ = rates_plan facts p online (choice_in call pressure normal) g m h in
           open-and_then (recorded p h rates) (zone_end facts p pressure normal call seen g)
-          (open-recorded p h rates (rates-open online g m h)) (zone_end-open seen g)
-      rating-open h (Mark seen g t m) =
-          sets-open seen g t (SetM (record { number = g }) m ∷ thresholds_left facts p pressure normal
+          (open-recorded p h rates (rates-open online sure g m h)) (zone_end-open seen sure g)
+      rating-open h (Mark seen g t m) sure =
+          sets-open seen sure g t (SetM (record { number = g }) m ∷ thresholds_left facts p pressure normal
           call seen g t 0) h
-      rating-open h (Thresholds seen g t c) =
-          sets-open seen g t (thresholds_left facts p pressure normal call seen g t c) h
-      rating-open h (Nodes seen i c) =
+      rating-open h (Thresholds seen g t c) sure =
+          sets-open seen sure g t (thresholds_left facts p pressure normal call seen g t c) h
+      rating-open h (Nodes seen i c) sure =
           open-makes_all (nodes_left facts p pressure normal call seen i c (drop i facts.layout.nodes)) (ends (tt {0}))
           (tt {0})
-
-  -- burials
-  module _ (facts : Facts) (p : ℕ) (pressure normal : ZoneSize → ℕ → ℕ → Type 0) (c : CpuId)
-      (sure : (g n : ℕ) → Needs (choice_in call.Refresh pressure normal (size_at facts.sizes g) n)) where
-    refresh-open : (h : History) → IsGood (refresh_plan facts p normal h)
-    refresh-open h = subst (λ plan. IsGood plan) (sym (refresh-begins facts p pressure normal h nobody))
-        (rating-open facts p pressure normal call.Refresh sure h (States nobody 0))
-      where
-        nobody : OnlineCpus
-        nobody = record { flags = [] }
-
-    pub burial-open : (h : History) (at : BurialPosition) → IsGood (burial_at facts p pressure normal c h at)
-    burial-open h (burial.Folds at) = open-and_then (recorded p h (fold_at facts.layout (fold_of c) at))
-        (after_burial_fold facts p pressure normal c)
-        (open-recorded p h (fold_at facts.layout (fold_of c) at) (fold-open facts.layout (fold_of c) at))
-        (λ folded step fits. refresh-open (after p (SetO c ∷ []) folded.1))
-    burial-open h (burial.Rates at) = rating-open facts p pressure normal call.Refresh sure h at

@@ -58,7 +58,7 @@ answer_of header (Rates call at) = answer.Done
 answer_of header (Bury c at) = answer.Done
 answer_of header (Turn turn at) = answer.Balanced (turn_answer at)
 
--- the call is on a counter, a zone or a node of the layout, and a turn asks for an order and a zone index that there are
+-- the call is on a counter, a zone or a node of the layout, and a turn is for an order and a zone index that there are
 abbrev pub IsWithin : Shape → Cursor → Type 0
 IsWithin shape (Change change at) = IsCounter shape change.counter.number
 IsWithin shape (Snapshot k at) = IsCounter shape k.number
@@ -74,7 +74,7 @@ abbrev pub IsAffordable : PageCall → Type 0
 IsAffordable (call.Change k delta how) = unsigned_abs delta ≤ most_volume
 IsAffordable _ = Unit {0}
 
--- a call is on a counter, a zone or a node of the layout, and a turn asks for an order and a zone index that there are
+-- a call is on a counter, a zone or a node of the layout, and a turn is for an order and a zone index that there are
 abbrev pub IsCallWithin : Shape → PageCall → Type 0
 IsCallWithin shape (call.Change k delta how) = IsCounter shape k.number
 IsCallWithin shape (call.Snapshot k) = IsCounter shape k.number

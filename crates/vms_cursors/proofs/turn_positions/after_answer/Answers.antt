@@ -17,9 +17,10 @@ returns-in-Yes-clause-same g c = λ base p h.
     let N = g.R.ThresholdRules.normal in
     let zone = c.in-Yes.zone in
     let verdict = c.in-Yes.verdict in
-    subst (λ s. IsSame (turn_at header base p P N c.args.turn h (Tests (Ended s))) (turn_at header base p P N c.args.turn
-    h (Settles zone verdict (States c.none.result 0)))) (sym c.in-Yes.is)
-    (passed-same header base p P N c.args.turn h zone verdict c.none.result)
+    let turn = c.args.turn in
+    subst (λ s. IsSame (turn_at header base p P N turn h (Tests (Ended s))) (turn_at header base p P N turn h
+    (Settles zone verdict (States c.none.result 0)))) (sym c.in-Yes.is)
+    (passed-same header base p P N turn h zone verdict c.none.result)
 
 pub returns-in-Yes-clause-ended : goal.returns-in-Yes-clause-ended
 returns-in-Yes-clause-ended g c = λ ended base p h.

@@ -17,7 +17,8 @@ returns-in-Presses-clause-stops g c = λ none.
     let header = c.args.header.now in
     let P = g.R.ThresholdRules.pressure in
     let N = g.R.ThresholdRules.normal in
-    subst (λ at. TurnStops header P N c.args.turn at c.args.step) (sym c.in-Presses.is) (c.after_pressure.ensures.stops none)
+    subst (λ at. TurnStops header P N c.args.turn at c.args.step) (sym c.in-Presses.is)
+    (c.after_pressure.ensures.stops none)
 
 pub returns-in-Tests-clause-goes : goal.returns-in-Tests-clause-goes
 returns-in-Tests-clause-goes g c =
@@ -32,7 +33,8 @@ returns-in-Tests-clause-stops g c = λ none.
     let header = c.args.header.now in
     let P = g.R.ThresholdRules.pressure in
     let N = g.R.ThresholdRules.normal in
-    subst (λ at. TurnStops header P N c.args.turn at c.args.step) (sym c.in-Tests.is) (c.after_balance.ensures.stops none)
+    subst (λ at. TurnStops header P N c.args.turn at c.args.step) (sym c.in-Tests.is)
+    (c.after_balance.ensures.stops none)
 
 pub returns-in-Settles-clause-goes : goal.returns-in-Settles-clause-goes
 returns-in-Settles-clause-goes g c =
@@ -47,4 +49,5 @@ returns-in-Settles-clause-stops g c = λ none.
     let header = c.args.header.now in
     let P = g.R.ThresholdRules.pressure in
     let N = g.R.ThresholdRules.normal in
-    subst (λ at. TurnStops header P N c.args.turn at c.args.step) (sym c.in-Settles.is) (c.after_rating.ensures.stops none)
+    subst (λ at. TurnStops header P N c.args.turn at c.args.step) (sym c.in-Settles.is)
+    (c.after_rating.ensures.stops none)

@@ -15,7 +15,8 @@ returns-then-number-zones-clause-same c =
     let header = c.args.header.now in
     let turn = c.args.turn in
     let number = c.next_tested-number.result in
-    let less : number < length header.layout.zones = omega (arith, c.if-number-zones.true, ap length c.zones.ensures.value) in
+    let less : number < length header.layout.zones =
+    omega (arith, c.if-number-zones.true, ap length c.zones.ensures.value) in
     same-runs (tests_from header turn c.args.zone)
     (balance_at header turn (Zone (record { number = number }) (Tests Begun)))
     (ap (zones_plan header turn.most turn.order) c.next_tested-number.ensures.same

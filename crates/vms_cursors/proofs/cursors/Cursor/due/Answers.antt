@@ -75,8 +75,10 @@ returns-in-Snapshot-clause-due g c = λ base p h.
     let P = g.R.ThresholdRules.pressure in
     let N = g.R.ThresholdRules.normal in
     let header : Header = c.args.header.now in
-    due-as header base p P N h c.args.self (Snapshot c.in-Snapshot.counter c.in-Snapshot.at) c.in-Snapshot.is c.due-in-Snapshot.result
-    (some-due (λ pages. answer.Snapshot pages) (snapshot_at header.layout c.in-Snapshot.counter c.in-Snapshot.at) c.due-in-Snapshot.result
+    due-as header base p P N h c.args.self (Snapshot c.in-Snapshot.counter c.in-Snapshot.at) c.in-Snapshot.is
+    c.due-in-Snapshot.result
+    (some-due (λ pages. answer.Snapshot pages) (snapshot_at header.layout c.in-Snapshot.counter c.in-Snapshot.at)
+    c.due-in-Snapshot.result
     c.due-in-Snapshot.ensures.due)
 
 pub returns-in-Snapshot-clause-ended : goal.returns-in-Snapshot-clause-ended
@@ -93,8 +95,10 @@ returns-in-Test-clause-due g c = λ base p h.
     let P = g.R.ThresholdRules.pressure in
     let N = g.R.ThresholdRules.normal in
     let header : Header = c.args.header.now in
-    due-as header base p P N h c.args.self (Test c.in-Test.zone c.in-Test.field-1 c.in-Test.field-2 c.in-Test.at) c.in-Test.is c.due-in-Test.result
-    (some-due (λ verdict. answer.Tested verdict) (test_at header c.in-Test.zone c.in-Test.field-1 c.in-Test.field-2 c.in-Test.at) c.due-in-Test.result
+    due-as header base p P N h c.args.self (Test c.in-Test.zone c.in-Test.field-1 c.in-Test.field-2 c.in-Test.at)
+    c.in-Test.is c.due-in-Test.result
+    (some-due (λ verdict. answer.Tested verdict) (test_at header c.in-Test.zone c.in-Test.field-1 c.in-Test.field-2
+    c.in-Test.at) c.due-in-Test.result
     (c.due-in-Test.ensures.due header c.in-Test.field-1 c.in-Test.field-2 refl))
 
 pub returns-in-Test-clause-ended : goal.returns-in-Test-clause-ended
@@ -102,9 +106,12 @@ returns-in-Test-clause-ended g c = λ base p h none.
     let P = g.R.ThresholdRules.pressure in
     let N = g.R.ThresholdRules.normal in
     let header : Header = c.args.header.now in
-    ended-as header base p P N h c.args.self (Test c.in-Test.zone c.in-Test.field-1 c.in-Test.field-2 c.in-Test.at) c.in-Test.is
-    (answering-ended (λ verdict. answer.Tested verdict) (test_at header c.in-Test.zone c.in-Test.field-1 c.in-Test.field-2 c.in-Test.at)
-    (test_answer header c.in-Test.zone c.in-Test.field-1 c.in-Test.field-2 c.in-Test.at) (c.due-in-Test.ensures.ended header c.in-Test.field-1 c.in-Test.field-2 refl none))
+    ended-as header base p P N h c.args.self (Test c.in-Test.zone c.in-Test.field-1 c.in-Test.field-2 c.in-Test.at)
+    c.in-Test.is
+    (answering-ended (λ verdict. answer.Tested verdict) (test_at header c.in-Test.zone c.in-Test.field-1
+    c.in-Test.field-2 c.in-Test.at)
+    (test_answer header c.in-Test.zone c.in-Test.field-1 c.in-Test.field-2 c.in-Test.at) (c.due-in-Test.ensures.ended
+    header c.in-Test.field-1 c.in-Test.field-2 refl none))
 
 pub returns-in-Fold-clause-due : goal.returns-in-Fold-clause-due
 returns-in-Fold-clause-due g c = λ base p h.
@@ -130,7 +137,8 @@ returns-in-Rates-clause-due g c = λ base p h.
     let N = g.R.ThresholdRules.normal in
     let header : Header = c.args.header.now in
     due-as header base p P N h c.args.self (Rates c.in-Rates.call c.in-Rates.at) c.in-Rates.is c.due-in-Rates.result
-    (some-due (λ made. answer.Done) (rating_at (facts_of header base) p P N c.in-Rates.call h c.in-Rates.at) c.due-in-Rates.result
+    (some-due (λ made. answer.Done) (rating_at (facts_of header base) p P N c.in-Rates.call h c.in-Rates.at)
+    c.due-in-Rates.result
     (rates-due header base p P N h c.in-Rates.call c.in-Rates.at c.due-in-Rates.result c.due-in-Rates.ensures.due))
 
 pub returns-in-Rates-clause-ended : goal.returns-in-Rates-clause-ended
@@ -148,7 +156,8 @@ returns-in-Bury-clause-due g c = λ base p h.
     let N = g.R.ThresholdRules.normal in
     let header : Header = c.args.header.now in
     due-as header base p P N h c.args.self (Bury c.in-Bury.cpu c.in-Bury.at) c.in-Bury.is c.due-in-Bury.result
-    (some-due (λ made. answer.Done) (burial_at (facts_of header base) p P N c.in-Bury.cpu h c.in-Bury.at) c.due-in-Bury.result
+    (some-due (λ made. answer.Done) (burial_at (facts_of header base) p P N c.in-Bury.cpu h c.in-Bury.at)
+    c.due-in-Bury.result
     (buries-due header base p P N h c.in-Bury.cpu c.in-Bury.at c.due-in-Bury.result c.due-in-Bury.ensures.due))
 
 pub returns-in-Bury-clause-ended : goal.returns-in-Bury-clause-ended
@@ -166,7 +175,8 @@ returns-in-Turn-clause-due g c = λ base p h.
     let N = g.R.ThresholdRules.normal in
     let header : Header = c.args.header.now in
     due-as header base p P N h c.args.self (Turn c.in-Turn.turn c.in-Turn.at) c.in-Turn.is c.due-in-Turn.result
-    (some-due (λ balance. answer.Balanced balance) (turn_at header base p P N c.in-Turn.turn h c.in-Turn.at) c.due-in-Turn.result
+    (some-due (λ balance. answer.Balanced balance) (turn_at header base p P N c.in-Turn.turn h c.in-Turn.at)
+    c.due-in-Turn.result
     (turns-due header base p P N h c.in-Turn.turn c.in-Turn.at c.due-in-Turn.result c.due-in-Turn.ensures.due))
 
 pub returns-in-Turn-clause-ended : goal.returns-in-Turn-clause-ended

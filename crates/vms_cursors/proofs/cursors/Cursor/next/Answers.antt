@@ -81,7 +81,8 @@ returns-in-Some-next-clause-goes g c = λ base p h.
     let P = g.R.ThresholdRules.pressure in
     let N = g.R.ThresholdRules.normal in
     let header : Header = c.args.header.now in
-    goes-as header base p P N h c.args.self (Snapshot c.in-Snapshot.counter c.in-Snapshot.at) c.in-Snapshot.is c.args.step
+    goes-as header base p P N h c.args.self (Snapshot c.in-Snapshot.counter c.in-Snapshot.at) c.in-Snapshot.is
+    c.args.step
     (Snapshot c.in-Snapshot.counter c.in-Some-next.later)
     (answering-goes (λ pages. answer.Snapshot pages) (snapshot_at header.layout c.in-Snapshot.counter c.in-Snapshot.at)
     (snapshot_at header.layout c.in-Snapshot.counter c.in-Some-next.later) c.args.step
@@ -92,8 +93,10 @@ returns-in-None-next-clause-stops g c = λ base p h none.
     let P = g.R.ThresholdRules.pressure in
     let N = g.R.ThresholdRules.normal in
     let header : Header = c.args.header.now in
-    stops-as header base p P N h c.args.self (Snapshot c.in-Snapshot.counter c.in-Snapshot.at) c.in-Snapshot.is c.args.step
-    (answering-stops (λ pages. answer.Snapshot pages) (snapshot_at header.layout c.in-Snapshot.counter c.in-Snapshot.at) c.args.step
+    stops-as header base p P N h c.args.self (Snapshot c.in-Snapshot.counter c.in-Snapshot.at) c.in-Snapshot.is
+    c.args.step
+    (answering-stops (λ pages. answer.Snapshot pages) (snapshot_at header.layout c.in-Snapshot.counter
+    c.in-Snapshot.at) c.args.step
     (c.in-None-next.ensures.stops none))
 
 pub returns-in-Some-next-2-clause-goes : goal.returns-in-Some-next-2-clause-goes
@@ -101,9 +104,11 @@ returns-in-Some-next-2-clause-goes g c = λ base p h.
     let P = g.R.ThresholdRules.pressure in
     let N = g.R.ThresholdRules.normal in
     let header : Header = c.args.header.now in
-    goes-as header base p P N h c.args.self (Test c.in-Test.zone c.in-Test.mark c.in-Test.most c.in-Test.at) c.in-Test.is c.args.step
+    goes-as header base p P N h c.args.self (Test c.in-Test.zone c.in-Test.mark c.in-Test.most c.in-Test.at)
+    c.in-Test.is c.args.step
     (Test c.in-Test.zone c.in-Test.mark c.in-Test.most c.in-Some-next-2.later)
-    (answering-goes (λ verdict. answer.Tested verdict) (test_at header c.in-Test.zone c.in-Test.mark c.in-Test.most c.in-Test.at)
+    (answering-goes (λ verdict. answer.Tested verdict) (test_at header c.in-Test.zone c.in-Test.mark c.in-Test.most
+    c.in-Test.at)
     (test_at header c.in-Test.zone c.in-Test.mark c.in-Test.most c.in-Some-next-2.later) c.args.step
     (c.in-Some-next-2.ensures.goes header c.in-Test.mark c.in-Test.most refl))
 
@@ -112,8 +117,10 @@ returns-in-None-next-2-clause-stops g c = λ base p h none.
     let P = g.R.ThresholdRules.pressure in
     let N = g.R.ThresholdRules.normal in
     let header : Header = c.args.header.now in
-    stops-as header base p P N h c.args.self (Test c.in-Test.zone c.in-Test.mark c.in-Test.most c.in-Test.at) c.in-Test.is c.args.step
-    (answering-stops (λ verdict. answer.Tested verdict) (test_at header c.in-Test.zone c.in-Test.mark c.in-Test.most c.in-Test.at) c.args.step
+    stops-as header base p P N h c.args.self (Test c.in-Test.zone c.in-Test.mark c.in-Test.most c.in-Test.at)
+    c.in-Test.is c.args.step
+    (answering-stops (λ verdict. answer.Tested verdict) (test_at header c.in-Test.zone c.in-Test.mark c.in-Test.most
+    c.in-Test.at) c.args.step
     (c.in-None-next-2.ensures.stops header c.in-Test.mark c.in-Test.most refl none))
 
 pub returns-in-Some-next-3-clause-goes : goal.returns-in-Some-next-3-clause-goes
@@ -144,7 +151,8 @@ returns-in-Some-next-4-clause-goes g c = λ base p h.
     goes-as header base p P N h c.args.self (Rates c.in-Rates.call c.in-Rates.at) c.in-Rates.is c.args.step
     (Rates c.in-Rates.call c.in-Some-next-4.later)
     (answering-goes (λ made. answer.Done) (rating_at (facts_of header base) p P N c.in-Rates.call h c.in-Rates.at)
-    (rating_at (facts_of header base) p P N c.in-Rates.call (after p (c.args.step ∷ []) h) c.in-Some-next-4.later) c.args.step
+    (rating_at (facts_of header base) p P N c.in-Rates.call (after p (c.args.step ∷ []) h) c.in-Some-next-4.later)
+    c.args.step
     (c.in-Some-next-4.ensures.goes header.sizes base p h))
 
 pub returns-in-None-next-4-clause-stops : goal.returns-in-None-next-4-clause-stops
@@ -153,7 +161,8 @@ returns-in-None-next-4-clause-stops g c = λ base p h none.
     let N = g.R.ThresholdRules.normal in
     let header : Header = c.args.header.now in
     stops-as header base p P N h c.args.self (Rates c.in-Rates.call c.in-Rates.at) c.in-Rates.is c.args.step
-    (answering-stops (λ made. answer.Done) (rating_at (facts_of header base) p P N c.in-Rates.call h c.in-Rates.at) c.args.step
+    (answering-stops (λ made. answer.Done) (rating_at (facts_of header base) p P N c.in-Rates.call h c.in-Rates.at)
+    c.args.step
     (c.in-None-next-4.ensures.stops none header.sizes base p h))
 
 pub returns-in-Some-next-5-clause-goes : goal.returns-in-Some-next-5-clause-goes
@@ -164,7 +173,8 @@ returns-in-Some-next-5-clause-goes g c = λ base p h.
     goes-as header base p P N h c.args.self (Bury c.in-Bury.cpu c.in-Bury.at) c.in-Bury.is c.args.step
     (Bury c.in-Bury.cpu c.in-Some-next-5.later)
     (answering-goes (λ made. answer.Done) (burial_at (facts_of header base) p P N c.in-Bury.cpu h c.in-Bury.at)
-    (burial_at (facts_of header base) p P N c.in-Bury.cpu (after p (c.args.step ∷ []) h) c.in-Some-next-5.later) c.args.step
+    (burial_at (facts_of header base) p P N c.in-Bury.cpu (after p (c.args.step ∷ []) h) c.in-Some-next-5.later)
+    c.args.step
     (c.in-Some-next-5.ensures.goes header.sizes base p h))
 
 pub returns-in-None-next-5-clause-stops : goal.returns-in-None-next-5-clause-stops
@@ -173,7 +183,8 @@ returns-in-None-next-5-clause-stops g c = λ base p h none.
     let N = g.R.ThresholdRules.normal in
     let header : Header = c.args.header.now in
     stops-as header base p P N h c.args.self (Bury c.in-Bury.cpu c.in-Bury.at) c.in-Bury.is c.args.step
-    (answering-stops (λ made. answer.Done) (burial_at (facts_of header base) p P N c.in-Bury.cpu h c.in-Bury.at) c.args.step
+    (answering-stops (λ made. answer.Done) (burial_at (facts_of header base) p P N c.in-Bury.cpu h c.in-Bury.at)
+    c.args.step
     (c.in-None-next-5.ensures.stops none header.sizes base p h))
 
 pub returns-in-Some-next-6-clause-goes : goal.returns-in-Some-next-6-clause-goes
@@ -193,5 +204,6 @@ returns-in-None-next-6-clause-stops g c = λ base p h none.
     let N = g.R.ThresholdRules.normal in
     let header : Header = c.args.header.now in
     stops-as header base p P N h c.args.self (Turn c.in-Turn.turn c.in-Turn.at) c.in-Turn.is c.args.step
-    (answering-stops (λ balance. answer.Balanced balance) (turn_at header base p P N c.in-Turn.turn h c.in-Turn.at) c.args.step
+    (answering-stops (λ balance. answer.Balanced balance) (turn_at header base p P N c.in-Turn.turn h c.in-Turn.at)
+    c.args.step
     (c.in-None-next-6.ensures.stops none base p h))
