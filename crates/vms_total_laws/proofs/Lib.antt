@@ -6,6 +6,7 @@ pub mod EventTotals
 pub mod Ways
 pub mod StartTotals
 pub mod PcpuReadings
+pub mod AddedLines
 pub mod PcpuTotals
 pub mod PcpuWays
 pub mod SegmentLines

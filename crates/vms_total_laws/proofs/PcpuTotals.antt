@@ -1,19 +1,13 @@
 -- For other crates too: a phase moves the total of each percpu counter by what its lines add, by their answers.
-use Rattle.std.proofs.Common.{◌≡◌, ◌≢◌, ℕ, suc, ◌<◌, nat_eq, Bool, true, false, ℤ, pos, ◌+ℤ◌, List, [], ◌∷◌, length}
-use Rattle.std.proofs.Common.{map, reverse, Option, Some, None, get_or, refl, sym, ap, subst, ◌∙◌, arith, if◌then◌else◌}
-use Rattle.std.proofs.Common.{append-nil}
-use Rattle.std.specs.Prelude.{All}
+use Rattle.std.proofs.Common.{◌≡◌, ◌≢◌, ℕ, suc, ℤ, pos, ◌+ℤ◌, List, [], ◌∷◌, length, map, None, refl, sym, ap, subst}
+use Rattle.std.proofs.Common.{◌∙◌, arith}
 use Rattle.std.specs.List.Sorted.{IsStrictlyIncreasing}
-use Rattle.std.proofs.lemmas.Bool.Decides.{nat_tests}
 use Rattle.std.proofs.lemmas.Int.{ints}
-use Rattle.std.proofs.lemmas.List.Elements.{All-head, All-tail}
-use Rattle.std.proofs.lemmas.List.Kept.{AllPairs-from_increasing}
-use Rattle.vms_world.specs.Common.{Header, after, own, Works, sum_below, PcpuFacts, PcpuStep, AddL, AddC, percpu}
-use Rattle.vms_world.specs.Common.{numbers_after, IsIdle, as_is, own_added, pcpu_added, IsPcpu, count_at, amount_of}
-use Rattle.vms_world.specs.Common.{amounts, locals, IsActOf, IsLineOf, is_lane, line_of, Act, Cnt, Lim, Item, Lane, Cpu}
-use Rattle.vms_world.specs.Common.{Control, PcpuSteps, HasLanes, MakesActs, MakesLines, acts_of, is_among, lane_at}
-use Rattle.vms_world.specs.Common.{lanes_of, act as one_act, TableHistories, pcpu_facts}
-use Rattle.vms_history.proofs.Common.{sum_below-changed, sum_below-same, sum_below-zeros}
+use Rattle.vms_world.specs.Common.{Header, after, own, Works, PcpuFacts, PcpuStep, AddL, AddC, percpu, numbers_after}
+use Rattle.vms_world.specs.Common.{IsIdle, as_is, own_added, pcpu_added, IsPcpu, count_at, amount_of, amounts, locals}
+use Rattle.vms_world.specs.Common.{Act, Item, Lane, Cpu, Control, PcpuSteps, HasLanes, MakesActs, MakesLines, acts_of}
+use Rattle.vms_world.specs.Common.{lane_at, lanes_of, act as one_act, TableHistories, pcpu_facts}
+use Rattle.vms_history.proofs.Common.{sum_below-same}
 use Rattle.vms_pcpu_core.specs.declared.pcpu_calls.PcpuCall.TheVariants.{FoldDead}
 use Rattle.vms_pcpu_core.specs.Endings.{IsComplete}
 use Rattle.vms_pcpu_core.specs.Histories.{History, IsLegal}
@@ -23,181 +17,14 @@ use Rattle.vms_pcpu_core.proofs.Common.{totals-hold, AddsByCaller-holds, adds-ca
 use Rattle.vms_text.specs.declared.acts.Act.TheVariants.{Dead}
 use Rattle.vms_world.specs.declared.worlds.World.{World}
 use Rattle.vms_world.specs.Lanes.MakesActs.{none as no_act}
-use Rattle.vms_file_order.specs.Common.{StandOnce, pass_of, pcpu_makes}
-use Rattle.vms_file_order.proofs.Common.{HasPlace-among, StandOnce-lanes, is_lane-self, pass_of-lane_at}
-use Rattle.vms_answers.specs.declared.answers.Answer.{Answer}
-use Rattle.vms_answers.specs.Common.{LaneSteps, read_act, NumberedAnswer, answers_of, read_lines, steps_by, steps_of}
-use Rattle.vms_answers.specs.Common.{with_answer, with_left}
+use Rattle.vms_file_order.specs.Common.{pass_of, pcpu_makes}
+use Rattle.vms_file_order.proofs.Common.{StandOnce-lanes, pass_of-lane_at}
+use Rattle.vms_answers.specs.Common.{NumberedAnswer, answers_of, steps_of}
 use Rattle.vms_total_laws.specs.Common.{AreLinesOf, amount_added, adds_by, answer_at}
-use Rattle.vms_total_laws.proofs.KnownLines.{among-known}
-use Rattle.vms_total_laws.proofs.LaneSums.{acts_of-cons, other-lane}
+use Rattle.vms_total_laws.proofs.AddedLines.{added-by_pass, worth-lines, worth_at, worth_by, worth_of_lane}
 use Rattle.vms_total_laws.proofs.PassSums.{all-passes}
-use Rattle.vms_total_laws.proofs.PcpuReadings.{TellsLane-made, added_of_acts}
-
--- each of these lines has a higher number
-abbrev AreAfter : ℕ → List Item → Type 0
-AreAfter n [] = Unit {0}
-AreAfter n (item ∷ items) = (n < item.number) × AreAfter n items
-
--- and so each after those before it
-abbrev Ascend : List Item → Type 0
-Ascend [] = Unit {0}
-Ascend (item ∷ items) = AreAfter item.number items × Ascend items
-
-are-after : (n : ℕ) (items : List Item)
-    → ((k : ℕ) → k < length (map (λ item. item.number) items) → n < get_or (map (λ item. item.number) items) k 0)
-    → AreAfter n items
-are-after n [] each = tt
-are-after n (item ∷ items) each =
-    (each 0 (omega arith), are-after n items (λ k within. each (suc k) (omega arith)))
-
-ascend-pairs : (items : List Item) → ((i k : ℕ) → i < k → k < length (map (λ item. item.number) items)
-    → get_or (map (λ item. item.number) items) i 0 < get_or (map (λ item. item.number) items) k 0) → Ascend items
-ascend-pairs [] each = tt
-ascend-pairs (item ∷ items) each = (
-  are-after item.number items (λ k within. each 0 (suc k) (omega arith) (omega arith)),
-  ascend-pairs items (λ i k less within. each (suc i) (suc k) (omega arith) (omega arith)),
-)
 
 module _ (header : Header) (w : World) (j : ℕ) where
-  -- what is added by what is read of steps, line by line
-  abbrev pub added_from : List Item → (Lane → LaneSteps) → ℤ
-  added_from [] left = pos 0
-  added_from (item ∷ items) left =
-      amount_added j item.act (read_act header w item.lane item.act (left item.lane)).0
-      +ℤ added_from items (with_left item.lane (read_act header w item.lane item.act (left item.lane)).1 left)
-
-  -- by the numbers of the lines that is the same
-  other-answer : (n : ℕ) (answer : Option Answer) (answers : List NumberedAnswer) (m : ℕ) → n < m
-      → answer_at m (with_answer n answer answers) ≡ answer_at m answers
-  other-answer n None answers m later = refl
-  other-answer n (Some answer) answers m later =
-      let apart : nat_eq n m ≡ false = grind (arith, nat_tests) in
-      ap (λ (b : Bool). if b then Some answer else answer_at m answers) apart
-
-  others-add : (n : ℕ) (answer : Option Answer) (answers : List NumberedAnswer) (items : List Item)
-      → AreAfter n items → adds_by j (with_answer n answer answers) items ≡ adds_by j answers items
-  others-add n answer answers [] later = refl
-  others-add n answer answers (item ∷ items) later = omega (
-    arith,
-    ints,
-    ap (amount_added j item.act) (other-answer n answer answers item.number later.0),
-    others-add n answer answers items later.1,
-  )
-
-  none-before : (n : ℕ) (items : List Item) (left : Lane → LaneSteps) → AreAfter n items
-      → answer_at n (read_lines header w items left) ≡ None
-  none-before n [] left later = refl
-  none-before n (item ∷ items) left later =
-      let read = read_act header w item.lane item.act (left item.lane) in
-      let next = with_left item.lane read.1 left in
-      by read.0 (read_lines header w items next) (none-before n items next later.1)
-    where
-      by : (answer : Option Answer) (answers : List NumberedAnswer) → answer_at n answers ≡ None
-          → answer_at n (with_answer item.number answer answers) ≡ None
-      by None answers none = none
-      by (Some answer) answers none =
-          let apart : nat_eq item.number n ≡ false = grind (arith, nat_tests, later.0) in
-          ap (λ (b : Bool). if b then Some answer else answer_at n answers) apart ∙ none
-
-  own-answer : (n : ℕ) (answer : Option Answer) (answers : List NumberedAnswer) → answer_at n answers ≡ None
-      → answer_at n (with_answer n answer answers) ≡ answer
-  own-answer n None answers none = none
-  own-answer n (Some answer) answers none =
-      let same : nat_eq n n ≡ true = grind (arith, nat_tests) in
-      ap (λ (b : Bool). if b then Some answer else answer_at n answers) same
-
-  adds-by_number : (items : List Item) (left : Lane → LaneSteps) → Ascend items
-      → adds_by j (read_lines header w items left) items ≡ added_from items left
-  adds-by_number [] left ascend = refl
-  adds-by_number (item ∷ items) left ascend =
-      let read = read_act header w item.lane item.act (left item.lane) in
-      let next = with_left item.lane read.1 left in
-      let rest = read_lines header w items next in
-      omega (
-        arith,
-        ints,
-        ap (amount_added j item.act) (own-answer item.number read.0 rest
-            (none-before item.number items next ascend.0)),
-        others-add item.number read.0 rest items ascend.0,
-        adds-by_number items next ascend.1,
-      )
-
-  -- what the acts of a lane add by what is read of its steps
-  abbrev lane_adds : Lane → List Act → LaneSteps → ℤ
-  lane_adds (Cpu c) acts s = added_of_acts header w j c acts s
-  lane_adds Control acts s = pos 0
-
-  no-act : (lane : Lane) (s : LaneSteps) → lane_adds lane [] s ≡ pos 0
-  no-act (Cpu c) s = refl
-  no-act Control s = refl
-
-  -- on the control lane no line adds
-  none-of_control : (a : Act) → IsActOf header Control a → (answer : Option Answer) → amount_added j a answer ≡ pos 0
-  none-of_control (Cnt i amount) known answer = absurd known.0
-  none-of_control (Lim i limit amount) known answer = absurd known.0
-  none-of_control _ known answer = refl
-
-  one-act-more : (lane : Lane) (a : Act) (acts : List Act) (s : LaneSteps) → IsActOf header lane a
-      → lane_adds lane (a ∷ acts) s
-      ≡ amount_added j a (read_act header w lane a s).0 +ℤ lane_adds lane acts (read_act header w lane a s).1
-  one-act-more (Cpu c) a acts s known = refl
-  one-act-more Control a acts s known =
-      let none = none-of_control a known (read_act header w Control a s).0 in omega (arith, ints, none)
-
-  module _ (lanes : List Lane) (once : StandOnce lanes) where
-    abbrev adds_at : List Item → (Lane → LaneSteps) → ℕ → ℤ
-    adds_at items left n =
-        lane_adds (lane_at lanes n) (acts_of (lane_at lanes n) items) (left (lane_at lanes n))
-
-    own-lane : (item : Item) (items : List Item) (left : Lane → LaneSteps) → IsActOf header item.lane item.act
-        → lane_adds item.lane (acts_of item.lane (item ∷ items)) (left item.lane)
-        ≡ amount_added j item.act (read_act header w item.lane item.act (left item.lane)).0
-        +ℤ lane_adds item.lane (acts_of item.lane items)
-        (with_left item.lane (read_act header w item.lane item.act (left item.lane)).1 left item.lane)
-    own-lane item items left known =
-        let read = read_act header w item.lane item.act (left item.lane) in
-        let mine = is_lane-self item.lane in
-        ap (λ (acts : List Act). lane_adds item.lane acts (left item.lane)) (acts_of-cons item.lane item items
-        ∙ ap (λ (b : Bool). if b then item.act ∷ acts_of item.lane items else acts_of item.lane items) mine)
-        ∙ one-act-more item.lane item.act (acts_of item.lane items) (left item.lane) known
-        ∙ ap (λ (b : Bool). amount_added j item.act read.0
-        +ℤ lane_adds item.lane (acts_of item.lane items) (if b then read.1 else left item.lane)) (sym mine)
-
-    apart-lane : (item : Item) (items : List Item) (left : Lane → LaneSteps) (steps : LaneSteps) (lane : Lane)
-        → is_lane item.lane lane ≡ false
-        → lane_adds lane (acts_of lane (item ∷ items)) (left lane)
-        ≡ lane_adds lane (acts_of lane items) (with_left item.lane steps left lane)
-    apart-lane item items left steps lane apart =
-        ap (λ (acts : List Act). lane_adds lane acts (left lane)) (acts_of-cons lane item items
-        ∙ ap (λ (b : Bool). if b then item.act ∷ acts_of lane items else acts_of lane items) apart)
-        ∙ ap (λ (b : Bool). lane_adds lane (acts_of lane items) (if b then steps else left lane)) (sym apart)
-
-    -- the lines add what the lanes add, however they stand among one another
-    interleaved : (items : List Item) (left : Lane → LaneSteps) → AreLinesOf header items
-        → All (λ item. is_among item.lane lanes ≡ true) items
-        → added_from items left ≡ sum_below (adds_at items left) (length lanes)
-    interleaved [] left known among =
-        sym (sum_below-zeros (adds_at [] left) (length lanes) (λ n below. no-act (lane_at lanes n) _))
-    interleaved (item ∷ items) left known among =
-        let read = read_act header w item.lane item.act (left item.lane) in
-        let next = with_left item.lane read.1 left in
-        let at = HasPlace-among lanes item.lane (All-head (λ i. is_among i.lane lanes ≡ true) item items among) in
-        let act_known = (All-head (λ i. IsLineOf header (line_of i)) item items known).1 in
-        let here : adds_at (item ∷ items) left at.place
-        ≡ amount_added j item.act read.0 +ℤ adds_at items next at.place =
-        subst (λ (l : Lane). lane_adds l (acts_of l (item ∷ items)) (left l)
-        ≡ amount_added j item.act read.0 +ℤ lane_adds l (acts_of l items) (next l)) (sym at.there)
-        (own-lane item items left act_known) in
-        let changed = sum_below-changed (adds_at items next) (adds_at (item ∷ items) left) at.place (length lanes)
-        at.below
-        (λ i i_in other. apart-lane item items left read.1 (lane_at lanes i)
-        (other-lane lanes once item.lane at.place i at.number other
-        (sym (pass_of-lane_at lanes i once i_in).number))) in
-        let rest = interleaved items next (All-tail (λ i. IsLineOf header (line_of i)) item items known)
-        (All-tail (λ i. is_among i.lane lanes ≡ true) item items among) in
-        omega (arith, ints, here, changed, rest)
-
   abbrev facts : PcpuFacts
   facts = pcpu_facts header w
 
@@ -232,6 +59,13 @@ module _ (header : Header) (w : World) (j : ℕ) where
         omega (arith, ints, ap (own_added as_is j) own_is, now.1, was.1),
       )
 
+  -- what lines add is worth as it is
+  adds-worth : (answers : List NumberedAnswer) (items : List Item)
+      → worth_by header w j (λ lane. as_is) answers items ≡ adds_by j answers items
+  adds-worth answers [] = refl
+  adds-worth answers (item ∷ items) =
+      ap (λ z. amount_added j item.act (answer_at item.number answers) +ℤ z) (adds-worth answers items)
+
   -- the amounts of a legal history of these lines are what they add by their answers
   pub amounts-lines : (items : List Item) → AreLinesOf header items
       → IsStrictlyIncreasing (map (λ item. item.number) items) → (hs : TableHistories)
@@ -242,23 +76,21 @@ module _ (header : Header) (w : World) (j : ℕ) where
       let h = hs.counters in
       let lanes = lanes_of header.layout items in
       let once = StandOnce-lanes header.layout items in
-      let left = steps_of lanes hs in
       all-passes percpu facts (own_added as_is j) (λ e g. amount_of j (carried j g) e.step) refl (λ e g. refl)
       (λ e g quiet. quiet-none (carried j g) e.step quiet) h legal (amounts j h) (AddsByCaller-holds facts h legal j)
       lanes once lanes_are
-      ∙ sum_below-same (λ n. own_added as_is j (own h (suc n))) (adds_at lanes once items left) (length lanes)
+      ∙ sum_below-same (λ n. own_added as_is j (own h (suc n)))
+      (worth_at header w j (λ lane. as_is) lanes items (steps_of lanes hs)) (length lanes)
       (λ n below. by lanes n (lane_at lanes n) (lines n below) (pass_of-lane_at lanes n once below).number)
-      ∙ sym (interleaved lanes once items left known (among-known header items known))
-      ∙ sym (adds-by_number items left (ascend-pairs items (λ i k less within.
-      AllPairs-from_increasing (map (λ item. item.number) items) ascend i k 0 less within)))
+      ∙ sym (worth-lines header w j (λ lane. as_is) (λ lane. refl) items known ascend hs)
+      ∙ adds-worth (answers_of header w items hs) items
     where
       by : (ls : List Lane) (n : ℕ) (lane : Lane)
           → MakesActs (pcpu_makes facts lane (suc n)) (suc n) (acts_of lane items) hs.counters
           → pass_of ls lane ≡ suc n
-          → own_added as_is j (own hs.counters (suc n)) ≡ lane_adds lane (acts_of lane items) (steps_of ls hs lane)
-      by ls n (Cpu c) made number = (TellsLane-made header w j c (suc n) (acts_of (Cpu c) items) hs.counters made).adds
-          (steps_of ls hs (Cpu c)) [] (ap (steps_by hs.counters) number
-          ∙ sym (append-nil (map (λ e. e.step) (reverse (own hs.counters (suc n))))))
+          → own_added as_is j (own hs.counters (suc n))
+          ≡ worth_of_lane header w j (λ lane. as_is) lane (acts_of lane items) (steps_of ls hs lane)
+      by ls n (Cpu c) made number = added-by_pass header w j as_is refl amounts-after ls n c items hs made number
       by ls n Control made number = (control-made (suc n) (acts_of Control items) hs.counters made).1
 
   pub counters-add_lines : (items : List Item) → AreLinesOf header items

@@ -1,0 +1,3 @@
+pub mod PcpuSpending
+pub mod WaySpending
+pub mod LeftWorlds
