@@ -82,6 +82,16 @@ impl Tally {
         Ok(())
     }
 
+    /// Counts what a line came to, unless it is ignored.
+    pub fn count<L: BodyLine>(&mut self, judged: Result<L, Cause>) -> Result<(), Failure> {
+        match judged.map(L::kind) {
+            Ok(Kind::Blank) => {}
+            Ok(kind) => self.add(kind)?,
+            Err(_) => self.refused += 1,
+        }
+        Ok(())
+    }
+
     pub fn write(&self, out: &mut impl Write) -> io::Result<()> {
         writeln!(out, "done accepted {} refused {}", self.accepted, self.refused)
     }
@@ -111,7 +121,7 @@ pub fn spend(volume: &mut u64, size: u64) -> Result<(), Cause> {
 }
 
 /// Which lines count, by the lines above.
-struct Judge {
+pub struct Judge {
     states: Vec<State>,
     counters: Vec<u64>,
     events: Vec<u64>,
@@ -119,7 +129,7 @@ struct Judge {
 }
 
 impl Judge {
-    fn new(header: &Header) -> Judge {
+    pub fn new(header: &Header) -> Judge {
         Judge {
             states: vec![State::Online; header.cpus],
             counters: vec![0; header.cpus * header.bases.len()],
@@ -128,7 +138,7 @@ impl Judge {
         }
     }
 
-    fn judge(&mut self, line: Line) -> Result<(), Cause> {
+    pub fn judge(&mut self, line: Line) -> Result<(), Cause> {
         match line {
             Line::Lane(Lane::Cpu(cpu), act) => {
                 if self.states[cpu] != State::Online {
@@ -192,7 +202,7 @@ impl Input {
     }
 
     /// The next line, without its newline, or nothing at the end.
-    fn next(&mut self) -> Result<Option<&[u8]>, Failure> {
+    pub fn next(&mut self) -> Result<Option<&[u8]>, Failure> {
         self.line.clear();
         let count = self.source.read_until(b'\n', &mut self.line).map_err(|_| Failure::Read)?;
         if count == 0 {
@@ -207,6 +217,11 @@ impl Input {
             self.line.pop();
         }
         Ok(Some(&self.line))
+    }
+
+    /// The number of the last line that was read.
+    pub fn number(&self) -> u64 {
+        self.number
     }
 
     /// Reads the header up to its `go` line.
@@ -256,10 +271,9 @@ impl Input {
         let mut tally = Tally::default();
         while let Some(text) = self.next()? {
             let judged = judge(text);
-            match judged.map(L::kind) {
-                Ok(Kind::Blank) => continue,
-                Ok(kind) => tally.add(kind)?,
-                Err(_) => tally.refused += 1,
+            tally.count(judged)?;
+            if let Ok(Kind::Blank) = judged.map(L::kind) {
+                continue;
             }
             take(out, self.number, judged)?;
             out.hand_on_much()?;

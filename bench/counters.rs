@@ -1,6 +1,9 @@
 //! What the plain programs do alike on counters: the formulas of thresholds, marks and reserves, and the calls that go
 //! by the same rules whether one thread has the counters (world.rs) or several share them (shared.rs).
 
+// Each program uses a part of it.
+#![allow(dead_code)]
+
 use crate::trace::{Header, Zone};
 use std::cmp::Ordering;
 
@@ -86,7 +89,7 @@ pub struct Limits<'a> {
     /// What each zone keeps for itself, by highest zone index.
     pub reserves: Vec<[u64; 4]>,
     /// The positions of the items that count the free blocks of each order.
-    areas: [Option<usize>; MOST_ORDER + 1],
+    pub areas: [Option<usize>; MOST_ORDER + 1],
 }
 
 impl<'a> Limits<'a> {
