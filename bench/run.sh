@@ -1,11 +1,13 @@
 #!/usr/bin/env bash
-# Measures the proved program beside the same job in plain Rust, bench/replay.rs, bench/check.rs, bench/run.rs or
-# bench/groups.rs, on a trace of 1,000,000 lines: for `replay` changes of counters (bench/changes.py), for `check` lines
-# of every form (bench/mixed.py), for `run` lines of every kind on 8 CPUs (bench/phases.py), for `groups` changes and
-# flushes of 64 groups on 8 CPUs (bench/groups.py), the last two in phases of 200, then of 10,000, and then of 1,000,000
-# lines. For `wide` it is `run` of 100,000 lines on 128 CPUs with 16 zones, in phases of 200 lines.
+# Measures the proved program beside the same job in plain Rust, bench/replay.rs, bench/check.rs, bench/run.rs,
+# bench/groups.rs, bench/record.rs or bench/certify.rs, on a trace of 1,000,000 lines: for `replay` changes of counters
+# (bench/changes.py), for `check` lines of every form (bench/mixed.py), for `run` lines of every kind on 8 CPUs
+# (bench/phases.py), for `groups` changes and flushes of 64 groups on 8 CPUs (bench/groups.py), the last two in phases
+# of 200, then of 10,000, and then of 1,000,000 lines. For `wide` it is `run` of 100,000 lines on 128 CPUs with 16
+# zones, in phases of 200 lines. For `record` it is a trace of 128,000 lines of bench/phases.py, in phases of 200, and
+# for `certify` what bench/record.rs writes of it, with about 850,000 events.
 #
-#     bench/run.sh replay|check|run|wide|groups [N]
+#     bench/run.sh replay|check|run|wide|groups|record|certify [N]
 #
 # Both read the trace from a file and write to /dev/null, N times each (21 where no N is given), one after the other in
 # turn. Printed are the median wall time of each, from start to end of its process, the ratio of the medians, and the
@@ -29,8 +31,8 @@ command=$asked
 rounds=${2:-21}
 proved=${VOZHKELL:-$top/crates/vozhkell/out/vozhkell}
 
-if ! [[ $asked =~ ^(replay|check|run|wide|groups)$ && $rounds =~ ^[1-9][0-9]*$ ]]; then
-    echo "usage: bench/run.sh replay|check|run|wide|groups [N]" >&2
+if ! [[ $asked =~ ^(replay|check|run|wide|groups|record|certify)$ && $rounds =~ ^[1-9][0-9]*$ ]]; then
+    echo "usage: bench/run.sh replay|check|run|wide|groups|record|certify [N]" >&2
     exit 2
 fi
 if ! [ -x "$proved" ]; then
@@ -135,6 +137,16 @@ case $asked in
     replay | check)
         declare -A generators=([replay]=changes [check]=mixed)
         python3 -B "$top/bench/${generators[$command]}.py" >"$work/trace" || exit 2
+        compared || exit 1
+        measured
+        ;;
+    record | certify)
+        python3 -B "$top/bench/phases.py" 1 128000 8 200 >"$work/trace" || exit 2
+        if [ $command = certify ]; then
+            rustc "${flags[@]}" -o "$work/record" "$top/bench/record.rs" || exit 2
+            "$work/record" record <"$work/trace" >"$work/history"
+            mv "$work/history" "$work/trace"
+        fi
         compared || exit 1
         measured
         ;;
