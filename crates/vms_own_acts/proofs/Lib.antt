@@ -1,0 +1,9 @@
+pub mod OneWay
+pub mod OneWayCalls
+pub mod SomeSteps
+pub mod SameCalls
+pub mod OwnPeaks
+pub mod StepLists
+pub mod Rows
+pub mod OwnRows
+pub mod Acts

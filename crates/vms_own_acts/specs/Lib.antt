@@ -1,0 +1,5 @@
+pub mod Rules
+pub mod Histories
+pub mod InRow
+pub mod Along
+pub mod Common
