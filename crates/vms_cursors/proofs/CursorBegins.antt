@@ -1,4 +1,4 @@
--- How the cursor of a call that gives thresholds begins.
+-- How the cursors of the calls that ask the rules begin.
 use Rattle.std.proofs.Common.{◌≡◌, ℕ, ◌≤◌, ◌*◌, ◌/◌, pos, false, sym, ap, subst, ◌∙◌, arith}
 use Rattle.std.specs.Prelude.{IfSome, None, Option, Some, is_some}
 use Rattle.vms_calls.specs.Common.{CpuId, Header, History, Shape, State, ZoneSize, facts_of, place_count}
@@ -11,8 +11,10 @@ use Rattle.vms_cursors.specs.Calls.{IsWithin, cursor_at, owns_none}
 use Rattle.vms_cursors.specs.Cursors.{IsSame}
 use Rattle.vms_cursors.specs.RatingCalls.{IsRatingWithin}
 use Rattle.vms_cursors.specs.Ratings.{rating_at}
+use Rattle.vms_cursors.specs.Turns.{IsTurnWithin, turn_at}
 use Rattle.vms_cursors.specs.declared.cursors.Cursor.{Cursor}
 use Rattle.vms_cursors.specs.declared.cursors.Cursor.TheVariants.{Bury, Rates}
+use Rattle.vms_cursors.specs.declared.cursors.Cursor.TheVariants as at
 use Rattle.vms_cursors.specs.Totals.{total_at}
 use Rattle.vms_cursors.specs.declared.burial_positions.BurialPosition.TheVariants.{Folds}
 use Rattle.vms_cursors.specs.declared.fold_positions.FoldPosition.TheVariants.{Places}
@@ -21,7 +23,10 @@ use Rattle.vms_cursors.specs.declared.online_cpus.OnlineCpus.{OnlineCpus}
 use Rattle.vms_cursors.specs.declared.rating_calls.RatingCall.{RatingCall}
 use Rattle.vms_cursors.specs.declared.rating_positions.RatingPosition.TheVariants.{States}
 use Rattle.vms_cursors.proofs.FoldPlans.{fold-begins}
+use Rattle.vms_cursors.specs.declared.turn_positions.TurnPosition.TheVariants.{Presses}
+use Rattle.vms_cursors.specs.declared.turns.Turn.{Turn}
 use Rattle.vms_cursors.proofs.Goes.{same-runs}
+use Rattle.vms_cursors.proofs.TurnGoes.{turn-begins}
 
 module _ (rating : RatingCall) where
   -- the cursor at the beginning
@@ -91,3 +96,33 @@ module _ (c : CpuId) where
       let few : 0 ≤ place_count shape = omega arith in
       let first : found.0.groups ≡ shape.positions / 8 * 0 = omega (arith, found.1) in
       subst (IsWithin shape) (sym found.3) (few, first)
+
+module _ (turn : Turn) where
+  -- the cursor at the beginning of a turn of kswapd
+  abbrev pub BeginsTurn : Cursor → Type 0
+  BeginsTurn cursor = (online : OnlineCpus) × (cursor ≡ at.Turn turn (Presses (States online 0)))
+
+  module _ (header : Header) (base : State) (p : ℕ) (pressure normal : ZoneSize → ℕ → ℕ → Type 0) (h : History)
+      (call : PageCall) (is : call ≡ page.Turn turn.node turn.order turn.most) where
+    pub turn_call-begins : (owner : Option CpuId) (result : Option Cursor) → is_some result ≡ owns_none owner
+        → IfSome result BeginsTurn → IfSome result (λ cursor.
+        IsSame (plan_of header base pressure normal call owner p h) (cursor_at header base p pressure normal h cursor))
+    turn_call-begins owner None known found = found
+    turn_call-begins (Some own) (Some cursor) known found = absurd cc
+    turn_call-begins None (Some cursor) known found =
+        let whole : PageCall = page.Turn turn.node turn.order turn.most in
+        subst (λ k. IsSame (plan_of header base pressure normal k None p h)
+        (cursor_at header base p pressure normal h cursor)) (sym is)
+        (subst (λ x. IsSame (plan_of header base pressure normal whole None p h)
+        (cursor_at header base p pressure normal h x)) (sym found.1)
+        (same-runs (plan_of header base pressure normal whole None p h)
+        (answering (λ balance. answer.Balanced balance)
+        (turn_at header base p pressure normal turn h (Presses (States found.0 0))))
+        (ap (answering (λ balance. answer.Balanced balance))
+        (turn-begins header base p pressure normal turn h found.0))))
+
+  pub turn_call-within : (shape : Shape) → IsTurnWithin shape turn → (result : Option Cursor)
+      → IfSome result BeginsTurn → IfSome result (λ cursor. IsWithin shape cursor)
+  turn_call-within shape within None found = found
+  turn_call-within shape within (Some cursor) found =
+      let few : 0 ≤ shape.cpus = omega arith in subst (IsWithin shape) (sym found.1) (within, few)

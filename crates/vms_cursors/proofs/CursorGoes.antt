@@ -1,19 +1,23 @@
 -- What holds of the plan at a cursor, from the position at which its call stands.
 use Rattle.std.proofs.Common.{◌≡◌, ℕ, [], ◌∷◌, sym, subst}
 use Rattle.std.specs.Prelude.{Option, Some, None, IfSome}
-use Rattle.vms_calls.specs.Common.{CpuId, Header, History, Shape, State, Step, ZoneSize, after, facts_of}
+use Rattle.vms_calls.specs.Common.{CpuId, Header, History, State, Step, ZoneSize, after, facts_of}
 use Rattle.vms_plans.specs.declared.due_steps.DueStep.{DueStep}
 use Rattle.vms_plans.specs.Common.{Plan, and_then, ends}
-use Rattle.vms_cursors.specs.BurialClauses.{BurialDue, BurialEnded, BurialGoes, BurialStops}
+use Rattle.vms_cursors.specs.BurialClauses.{BurialDue}
 use Rattle.vms_cursors.specs.Burials.{burial_at}
 use Rattle.vms_cursors.specs.Calls.{answer_of, cursor_at}
 use Rattle.vms_cursors.specs.declared.burial_positions.BurialPosition.{BurialPosition}
 use Rattle.vms_cursors.specs.Cursors.{GoesOn, HasEnded, IsDue, Stops}
-use Rattle.vms_cursors.specs.RatingClauses.{RatingDue, RatingEnded, RatingGoes, RatingStops}
+use Rattle.vms_cursors.specs.RatingClauses.{RatingDue}
 use Rattle.vms_cursors.specs.Ratings.{rating_at}
+use Rattle.vms_cursors.specs.TurnClauses.{TurnDue}
+use Rattle.vms_cursors.specs.Turns.{turn_at}
 use Rattle.vms_cursors.specs.declared.cursors.Cursor.{Cursor}
 use Rattle.vms_cursors.specs.declared.rating_calls.RatingCall.{RatingCall}
 use Rattle.vms_cursors.specs.declared.rating_positions.RatingPosition.{RatingPosition}
+use Rattle.vms_cursors.specs.declared.turn_positions.TurnPosition.{TurnPosition}
+use Rattle.vms_cursors.specs.declared.turns.Turn.{Turn}
 use Rattle.vms_cursors.proofs.Goes.{answering-due}
 
 pub some-due : {A B : Type 0} (tell : A → B) (plan : Plan A) (due : Option DueStep) → IfSome due (λ d. IsDue plan d)
@@ -44,47 +48,23 @@ module _ (header : Header) (base : State) (p : ℕ) (pressure normal : ZoneSize 
       (sym is) ended
 
 -- what a position of a call that gives thresholds says of the plan in a header
-module _ (header : Header) (base : State) (p : ℕ) (pressure normal : ZoneSize → ℕ → ℕ → Type 0) (h : History)
-    (shape : Shape) (same : header.layout ≡ shape) (call : RatingCall) (at : RatingPosition) where
-  abbrev here : Plan (Unit {0})
-  here = rating_at (facts_of header base) p pressure normal call h at
+module _ (header : Header) (base : State) (p : ℕ) (pressure normal : ZoneSize → ℕ → ℕ → Type 0) (h : History) where
+  pub rates-due : (call : RatingCall) (at : RatingPosition) (due : Option DueStep)
+      → IfSome due (λ d. RatingDue header.layout pressure normal call at d)
+      → IfSome due (λ d. IsDue (rating_at (facts_of header base) p pressure normal call h at) d)
+  rates-due call at None is = is
+  rates-due call at (Some d) is = is header.sizes base p h
 
-  pub rates-due : (due : Option DueStep) → IfSome due (λ d. RatingDue shape pressure normal call at d)
-      → IfSome due (λ d. IsDue here d)
-  rates-due None is = is
-  rates-due (Some d) is = subst (λ s. RatingDue s pressure normal call at d) (sym same) is header.sizes base p h
+  -- and a position of a burial
+  pub buries-due : (c : CpuId) (at : BurialPosition) (due : Option DueStep)
+      → IfSome due (λ d. BurialDue header.layout pressure normal c at d)
+      → IfSome due (λ d. IsDue (burial_at (facts_of header base) p pressure normal c h at) d)
+  buries-due c at None is = is
+  buries-due c at (Some d) is = is header.sizes base p h
 
-  pub rates-ended : RatingEnded shape pressure normal call at → HasEnded here (tt {0})
-  rates-ended ended = subst (λ s. RatingEnded s pressure normal call at) (sym same) ended header.sizes base p h
-
-  pub rates-goes : (step : Step) (later : RatingPosition) → RatingGoes shape pressure normal call at step later
-      → GoesOn here step (rating_at (facts_of header base) p pressure normal call (after p (step ∷ []) h) later)
-  rates-goes step later goes =
-      subst (λ s. RatingGoes s pressure normal call at step later) (sym same) goes header.sizes base p h
-
-  pub rates-stops : (step : Step) → RatingStops shape pressure normal call at step → Stops here step
-  rates-stops step stops =
-      subst (λ s. RatingStops s pressure normal call at step) (sym same) stops header.sizes base p h
-
--- and a position of a burial
-module _ (header : Header) (base : State) (p : ℕ) (pressure normal : ZoneSize → ℕ → ℕ → Type 0) (h : History)
-    (shape : Shape) (same : header.layout ≡ shape) (c : CpuId) (at : BurialPosition) where
-  abbrev left : Plan (Unit {0})
-  left = burial_at (facts_of header base) p pressure normal c h at
-
-  pub buries-due : (due : Option DueStep) → IfSome due (λ d. BurialDue shape pressure normal c at d)
-      → IfSome due (λ d. IsDue left d)
-  buries-due None is = is
-  buries-due (Some d) is = subst (λ s. BurialDue s pressure normal c at d) (sym same) is header.sizes base p h
-
-  pub buries-ended : BurialEnded shape pressure normal c at → HasEnded left (tt {0})
-  buries-ended ended = subst (λ s. BurialEnded s pressure normal c at) (sym same) ended header.sizes base p h
-
-  pub buries-goes : (step : Step) (later : BurialPosition) → BurialGoes shape pressure normal c at step later
-      → GoesOn left step (burial_at (facts_of header base) p pressure normal c (after p (step ∷ []) h) later)
-  buries-goes step later goes =
-      subst (λ s. BurialGoes s pressure normal c at step later) (sym same) goes header.sizes base p h
-
-  pub buries-stops : (step : Step) → BurialStops shape pressure normal c at step → Stops left step
-  buries-stops step stops =
-      subst (λ s. BurialStops s pressure normal c at step) (sym same) stops header.sizes base p h
+  -- and a position of a turn of kswapd
+  pub turns-due : (turn : Turn) (at : TurnPosition) (due : Option DueStep)
+      → IfSome due (λ d. TurnDue header pressure normal turn at d)
+      → IfSome due (λ d. IsDue (turn_at header base p pressure normal turn h at) d)
+  turns-due turn at None is = is
+  turns-due turn at (Some d) is = is base p h

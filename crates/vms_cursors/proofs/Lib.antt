@@ -16,7 +16,14 @@ pub mod RatingGoes
 pub mod RatingAlong
 pub mod RatingBegins
 pub mod CursorBegins
-pub mod Sequences
+pub mod Followed
+pub mod Asking
 pub mod BurialGoes
+pub mod KeptNumbers
+pub mod AreasLeft
+pub mod OrderGoes
+pub mod BalanceGoes
+pub mod TurnGoes
 pub mod OpenPositions
+pub mod OpenTurns
 pub mod OpenCursors

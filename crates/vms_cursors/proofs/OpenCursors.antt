@@ -14,13 +14,15 @@ use Rattle.vms_cursors.specs.RatingCalls.{choice_in}
 use Rattle.vms_cursors.specs.Ratings.{rating_at}
 use Rattle.vms_cursors.specs.Snapshots.{snapshot_at}
 use Rattle.vms_cursors.specs.Tests.{test_at}
+use Rattle.vms_cursors.specs.Turns.{turn_at}
 use Rattle.vms_cursors.specs.declared.cursors.Cursor.{Cursor}
 use Rattle.vms_cursors.specs.declared.cursors.Cursor.TheVariants.{Change, Value, System, Snapshot, Test, Fold, Rates}
-use Rattle.vms_cursors.specs.declared.cursors.Cursor.TheVariants.{Bury}
+use Rattle.vms_cursors.specs.declared.cursors.Cursor.TheVariants.{Bury, Turn}
 use Rattle.vms_cursors.specs.declared.rating_calls.RatingCall.{RatingCall}
 use Rattle.vms_cursors.specs.declared.rating_calls.RatingCall.TheVariants as call
 use Rattle.vms_cursors.proofs.OpenPositions.{IsGood, burial-open, change-open, fold-open, open-and_then, rating-open}
 use Rattle.vms_cursors.proofs.OpenPositions.{snapshot-open, test-open, value-open, system-open}
+use Rattle.vms_cursors.proofs.OpenTurns.{turn-open}
 
 -- nothing is needed of a question, or that some answer is allowed
 abbrev Nothing : (ℕ → ℕ → Type 0) → Type 0
@@ -72,6 +74,10 @@ module _ (Needs : (ℕ → ℕ → Type 0) → Type 0) (header : Header) (base :
   cursor-good (Bury c at) = told-good (λ made. answer.Done)
       (burial_at (facts_of header base) p pressure normal c h at)
       (burial-open Needs (facts_of header base) p pressure normal c (sure call.Refresh) h at)
+  cursor-good (Turn turn at) = told-good (λ balance. answer.Balanced balance)
+      (turn_at header base p pressure normal turn h at)
+      (turn-open Needs header turn base p pressure normal (sure (call.Pressure turn.node)) (sure (call.Normal turn.node))
+      h at)
 
 module _ (header : Header) (base : State) (p : ℕ) (pressure normal : ZoneSize → ℕ → ℕ → Type 0) (h : History) where
   pub cursor-open : (cursor : Cursor) → IsOpen (cursor_at header base p pressure normal h cursor)

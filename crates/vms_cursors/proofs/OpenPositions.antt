@@ -77,7 +77,7 @@ module _ (Needs : (ℕ → ℕ → Type 0) → Type 0) where
   open-makes_all [] plan here = here
   open-makes_all (k ∷ ks) plan here = λ step fits. open-makes_all ks plan here
 
-  open-either : {A : Type 0} (b : Bool) (plan other : Plan A) → IsGood plan → IsGood other → IsGood
+  pub open-either : {A : Type 0} (b : Bool) (plan other : Plan A) → IsGood plan → IsGood other → IsGood
       (either b plan other)
   open-either true plan other here there = here
   open-either false plan other here there = there

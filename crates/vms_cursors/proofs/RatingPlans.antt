@@ -1,7 +1,7 @@
 -- How the plan of a call that gives thresholds is the same at two positions.
 use Rattle.std.proofs.Common.{◌≡◌, ℕ, suc, zero, ◌+◌, ◌-◌, ◌<◌, ◌≤◌, Bool, true, false, List, [], ◌∷◌, ◌++◌, length}
-use Rattle.std.proofs.Common.{take, drop, if◌then◌else◌, refl, sym, ap, ◌∙◌, append_assoc, append-nil, add-one, arith}
-use Rattle.std.proofs.Common.{drop-cons, ⊎_elim}
+use Rattle.std.proofs.Common.{take, drop, refl, sym, ap, ◌∙◌, append_assoc, append-nil, add-one, arith, drop-cons}
+use Rattle.std.proofs.Common.{⊎_elim}
 use Rattle.std.proofs.Math.ListN.{set}
 use Rattle.std.proofs.Math.Path.{fun_ext}
 use Rattle.std.proofs.lemmas.Bool.{cases_lt}
@@ -20,7 +20,8 @@ use Rattle.vms_cursors.specs.declared.rated.Rated.{Rated}
 use Rattle.vms_cursors.specs.declared.rating_calls.RatingCall.{RatingCall}
 use Rattle.vms_cursors.specs.declared.rating_calls.RatingCall.TheVariants.{Pressure, Normal, Refresh}
 use Rattle.vms_cursors.specs.declared.rating_positions.RatingPosition.TheVariants.{Nodes, Zones}
-use Rattle.vms_cursors.proofs.FlaggedCpus.{all_left, flagged-some, more_left, none_left}
+use Rattle.vms_cursors.proofs.FlaggedCpus.{all_left, flagged-some, none_left}
+use Rattle.vms_cursors.proofs.KeptNumbers.{kept-none, kept-some}
 use Rattle.vms_cursors.proofs.PlanEquations.{and_then-assoc}
 
 -- states that were loaded before
@@ -67,21 +68,6 @@ take-set (x ∷ xs) (suc g) t less =
 module _ (shape : Shape) (call : RatingCall) where
   abbrev pub left_of : ℕ → List ℕ
   left_of g = visited_from shape call g (length shape.zones - g)
-
-  pub visited-some : (g : ℕ) → g < length shape.zones → visits shape call g ≡ true → left_of g ≡ g ∷ left_of (g + 1)
-  visited-some g less is =
-      ap (visited_from shape call g) (more_left (length shape.zones) g less)
-      ∙ ap (λ b. if b then g ∷ left_of (suc g) else left_of (suc g)) is
-      ∙ ap (λ k. g ∷ left_of k) (sym (add-one g))
-
-  pub visited-skipped : (g : ℕ) → g < length shape.zones → visits shape call g ≡ false → left_of g ≡ left_of (g + 1)
-  visited-skipped g less is =
-      ap (visited_from shape call g) (more_left (length shape.zones) g less)
-      ∙ ap (λ b. if b then g ∷ left_of (suc g) else left_of (suc g)) is
-      ∙ ap left_of (sym (add-one g))
-
-  pub visited-none : (g : ℕ) → length shape.zones ≤ g → left_of g ≡ []
-  visited-none g most = ap (visited_from shape call g) (none_left (length shape.zones) g most)
 
 module _ (facts : Facts) (p : ℕ) (pressure normal : ZoneSize → ℕ → ℕ → Type 0) (call : RatingCall) where
   abbrev count : ℕ
@@ -154,7 +140,7 @@ module _ (facts : Facts) (p : ℕ) (pressure normal : ZoneSize → ℕ → ℕ �
           let goes_on = λ (visited : ℕ × History).
           visits_plan p online rated (left (g + 1)) (visited.0 ∷ []) visited.1 in
           ap (λ gs. zones_plan facts p pressure normal call online before gs [] h)
-          (visited-some facts.layout call g less is)
+          (kept-some (visits facts.layout call) (length facts.layout.zones) g less is)
           ∙ and_then-assoc (visit_plan p online rated g h) goes_on (end before)
           ∙ and_then-assoc loads gets (zone_end facts p pressure normal call seen g)
           ∙ ap (λ n. and_then (recorded p h (mark_plan g (flagged seen.online.flags 0 n)))
@@ -285,7 +271,7 @@ module _ (facts : Facts) (p : ℕ) (pressure normal : ZoneSize → ℕ → ℕ �
       let all : g ≡ count = omega (arith, most, least) in
       let online : List CpuId = online_in facts p pressure normal call seen in
       ap (λ gs. zones_plan facts p pressure normal call online (take g seen.thresholds) gs [] h)
-      (visited-none facts.layout call g least)
+      (kept-none (visits facts.layout call) (length facts.layout.zones) g least)
       ∙ ap (after_zones facts p call online) (append-nil (take g seen.thresholds))
       ∙ ap (λ n. after_zones facts p call online (take n seen.thresholds)) all
 

@@ -24,3 +24,7 @@ IsDue {A} plan due = ((step : Step) (steps : List Step) (answer : A) → Runs pl
 -- a plan ends here with this answer
 abbrev pub HasEnded : {A : Type 0} → Plan A → A → Type 0
 HasEnded plan answer = Runs plan [] answer
+
+-- a plan doesn't end here
+abbrev pub IsUnended : {A : Type 0} → Plan A → Type 0
+IsUnended {A} plan = (answer : A) → HasEnded plan answer → ⊥

@@ -8,9 +8,14 @@ pub mod Calls
 pub mod Totals
 pub mod Folds
 pub mod OnlineCpus
+pub mod Kept
 pub mod RatingCalls
 pub mod Ratings
 pub mod RatingClauses
 pub mod Burials
 pub mod BurialClauses
+pub mod Orders
+pub mod Balances
+pub mod Turns
+pub mod TurnClauses
 pub mod Completions

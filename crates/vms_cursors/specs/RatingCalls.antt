@@ -1,8 +1,9 @@
 -- Which zones a call that gives thresholds visits, and how it goes on.
-use Rattle.std.specs.Prelude.{ℕ, zero, suc, nat_eq, Bool, true, false, List, [], ◌∷◌, if◌then◌else◌}
+use Rattle.std.specs.Prelude.{ℕ, nat_eq, Bool, true, false, List}
 use Rattle.vms_calls.specs.Common.{ByNormal, ByPressure, Choice, CpuId, Facts, IsNode, Shape, ZoneSize, node_number}
 use Rattle.vms_calls.specs.Common.{node_of_zone}
 use Rattle.vms_plans.specs.Common.{Plan, ends, makes_all, node_steps}
+use Rattle.vms_cursors.specs.Kept.{kept_from}
 use Rattle.vms_cursors.specs.declared.rating_calls.RatingCall.{RatingCall}
 use Rattle.vms_cursors.specs.declared.rating_calls.RatingCall.TheVariants.{Pressure, Normal, Refresh}
 
@@ -14,9 +15,7 @@ visits shape Refresh g = true
 
 -- those among n zones from zone g on, in order
 abbrev pub visited_from : Shape → RatingCall → ℕ → ℕ → List ℕ
-visited_from shape call g zero = []
-visited_from shape call g (suc n) =
-    if visits shape call g then g ∷ visited_from shape call (suc g) n else visited_from shape call (suc g) n
+visited_from shape call g n = kept_from (visits shape call) g n
 
 -- which thresholds a call may choose
 abbrev pub choice_in : RatingCall → (pressure normal : ZoneSize → ℕ → ℕ → Type 0) → Choice

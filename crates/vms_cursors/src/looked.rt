@@ -1,5 +1,5 @@
 ghost use Rattle.std.specs.Prelude.{◌≡◌, ◌<◌, ◌≤◌, ◌+◌, ◌*◌, ◌^◌, ◌+ℤ◌, unsigned_abs};
-ghost use Rattle.vms_calls.specs.Common.{IsByte};
+ghost use Rattle.vms_calls.specs.Common.{IsByte, at_least_zero};
 
 use vms_base::CpuId;
 
@@ -22,6 +22,13 @@ impl Looked {
             cpus: 0,
             sum: value as i128,
         }
+    }
+
+    /// The sum, and 0 where it is negative.
+    pub(crate) fn pages(self) -> u64
+        ensures { result ≡ at_least_zero self.sum }
+    {
+        self.sum.max(0) as u64
     }
 
     /// The CPU at which the snapshot looks next.

@@ -52,6 +52,17 @@ impl SnapshotPosition {
             SnapshotPosition::Online(found) => after_online(found, counter, layout, step),
         }
     }
+
+    /// The answer in pages where the snapshot has ended, and else 0.
+    pub(crate) fn pages(self) -> u64
+        ensures { result ≡ snapshot_answer self }
+    {
+        match self {
+            SnapshotPosition::Begun => 0,
+            SnapshotPosition::Looks(looked) => looked.pages(),
+            SnapshotPosition::Online(_) => 0,
+        }
+    }
 }
 
 /// The look at the next CPU, where there is one.

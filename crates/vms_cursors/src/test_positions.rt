@@ -1,12 +1,14 @@
-ghost use Rattle.std.specs.Prelude.{◌≡◌, ℕ, IfSome, IsNone};
-ghost use Rattle.vms_calls.specs.Common.{IsLayout, IsZone, Header, MarkRead, PlaceId, WaterMark, is_doubtful};
+ghost use Rattle.std.specs.Prelude.{◌≡◌, ◌≤◌, ℕ, IfSome, IsNone};
+ghost use Rattle.vms_calls.specs.Common.{IsHeader, IsLayout, IsZone, Header, MarkRead, PlaceId, WaterMark, is_doubtful};
 ghost use Rattle.vms_cursors.specs.Cursors.{GoesOn, IsDue, HasEnded, Stops};
 ghost use Rattle.vms_cursors.specs.Tests.{test_answer, test_at};
 ghost use Rattle.vms_cursors.specs.declared.test_positions.TestPosition.TheVariants.{Begun, Marked, Valued, Doubtful};
 
 use crate::SnapshotPosition;
 use crate::readings::{mark_in, value_in};
-use vms_base::{Layout, PlaceId};
+use vms_base::{Header, Layout, PlaceId, WaterMark};
+use vms_calc::limit;
+use vms_calls::Verdict;
 use vms_core::{MarkRead, Step};
 use vms_plans::DueStep;
 
@@ -60,6 +62,32 @@ impl TestPosition {
             TestPosition::Valued(first, value) => after_valued(zone, first, value, step),
             TestPosition::Fast(_) => None,
             TestPosition::Doubtful(snapshot) => after_doubtful(layout, zone, snapshot, step),
+        }
+    }
+
+    /// The verdict where the test has ended.
+    pub(crate) fn verdict(
+        self,
+        zone: PlaceId,
+        mark: WaterMark,
+        most: u32,
+        header: &Header,
+    ) -> Verdict
+        requires header { IsHeader header.now }
+        requires zone { IsZone header.now.layout zone.number }
+        requires most { most ≤ 3 }
+        ensures { result ≡ test_answer header.now zone mark most self }
+    {
+        let limit = limit(header, zone, mark, most);
+        let (free, fast) = match self {
+            TestPosition::Fast(value) => (value.max(0) as u64, true),
+            TestPosition::Doubtful(snapshot) => (snapshot.pages(), false),
+            _ => (0, false),
+        };
+        Verdict {
+            yes: limit < free,
+            free,
+            fast,
         }
     }
 }

@@ -2,7 +2,8 @@
 use Rattle.std.proofs.Common.{◌≡◌, ◌<◌, ◌≤◌, ◌∙◌, false, length, sym, ap, subst, arith, ⊎_elim}
 use Rattle.std.proofs.lemmas.Bool.{cases_lt}
 use Rattle.vms_cursors.specs.RatingCalls.{visits}
-use Rattle.vms_cursors.proofs.RatingPlans.{left_of, visited-skipped}
+use Rattle.vms_cursors.proofs.KeptNumbers.{kept-skipped}
+use Rattle.vms_cursors.proofs.RatingPlans.{left_of}
 use Rattle.vms_cursors.proofs.rating_positions.next_zone.Goals as goal
 
 pub loop-zone-preserved : goal.loop-zone-preserved
@@ -12,7 +13,7 @@ loop-zone-preserved c =
     let less : zone < length shape.zones = omega (arith, c.loop-zone-test.true, ap length c.zones.ensures.value) in
     let other : visits shape c.args.call zone ≡ false = sym c.visits.ensures ∙ c.if-visits.false in
     record {
-      same = c.loop-zone.invariant.same ∙ visited-skipped shape c.args.call zone less other;
+      same = c.loop-zone.invariant.same ∙ kept-skipped (visits shape c.args.call) (length shape.zones) zone less other;
       none = λ z least below. ⊎_elim
           (λ (before : z < zone). c.loop-zone.invariant.none z least before)
           (λ (past : zone ≤ z). subst (λ k. visits shape c.args.call k ≡ false)

@@ -6,7 +6,8 @@ use Rattle.vms_cursors.specs.Burials.{burial_at}
 use Rattle.vms_cursors.specs.Calls.{AnswersCursor, IsWithin, cursor_at}
 use Rattle.vms_cursors.specs.Cursors.{IsSame}
 use Rattle.vms_cursors.specs.Ratings.{rating_at}
-use Rattle.vms_cursors.specs.declared.cursors.Cursor.TheVariants.{Bury, Rates}
+use Rattle.vms_cursors.specs.Turns.{turn_at}
+use Rattle.vms_cursors.specs.declared.cursors.Cursor.TheVariants.{Bury, Rates, Turn}
 use Rattle.vms_cursors.proofs.Goes.{answering-same}
 use Rattle.vms_cursors.proofs.cursors.Cursor.answer.Goals as goal
 
@@ -44,3 +45,20 @@ returns-in-Bury-clause-same g c = λ header base p h answers.
 pub returns-in-Bury-clause-within : goal.returns-in-Bury-clause-within
 returns-in-Bury-clause-within g c = λ shape within.
     c.answer-in-Bury.ensures.within shape (subst (IsWithin shape) c.in-Bury.is within)
+
+pub returns-in-Turn-clause-same : goal.returns-in-Turn-clause-same
+returns-in-Turn-clause-same g c = λ header base p h answers.
+    let P = g.R.ThresholdRules.pressure in
+    let N = g.R.ThresholdRules.normal in
+    let turn = c.in-Turn.turn in
+    subst (λ s. IsSame (cursor_at header base p P N h s) (cursor_at header base p P N h
+    (Turn turn c.answer-in-Turn.result)))
+    (sym c.in-Turn.is)
+    (answering-same (λ balance. answer.Balanced balance) (turn_at header base p P N turn h c.in-Turn.at)
+    (turn_at header base p P N turn h c.answer-in-Turn.result)
+    (c.answer-in-Turn.ensures.same header base p turn h
+    (subst (λ s. AnswersCursor header base p P N h s c.args.chosen c.args.mark) c.in-Turn.is answers)))
+
+pub returns-in-Turn-clause-within : goal.returns-in-Turn-clause-within
+returns-in-Turn-clause-within g c = λ shape within.
+    let both = subst (IsWithin shape) c.in-Turn.is within in (both.0, c.answer-in-Turn.ensures.within shape both.1)

@@ -1,5 +1,5 @@
--- A fold, the calls that give thresholds and a burial begin with their whole plans.
-use Rattle.std.proofs.Common.{◌≡◌, Bool, ap, refl, ◌∙◌, subst, sym}
+-- A fold, the calls that give thresholds, a burial and a turn begin with their whole plans.
+use Rattle.std.proofs.Common.{◌≡◌, ℕ, Bool, ap, refl, ◌∙◌, subst, sym}
 use Rattle.std.specs.Prelude.{None, Option, Some}
 use Rattle.vms_calls.specs.Common.{ByNormal, ByPressure, CpuId, PlaceId, facts_of}
 use Rattle.vms_calls.specs.PageCalls.{owns_cpu}
@@ -14,6 +14,7 @@ use Rattle.vms_cursors.specs.declared.fold_positions.FoldPosition.TheVariants.{P
 use Rattle.vms_cursors.specs.declared.folds.Fold.{Fold}
 use Rattle.vms_cursors.specs.declared.rating_calls.RatingCall.TheVariants.{Normal, Pressure}
 use Rattle.vms_cursors.proofs.CursorBegins.{burial-begins, burial-within, rating-begins, rating-within}
+use Rattle.vms_cursors.proofs.CursorBegins.{turn_call-begins, turn_call-within}
 use Rattle.vms_cursors.proofs.RatingBegins.{normal-begins, pressure-begins}
 use Rattle.vms_cursors.proofs.FoldPlans.{fold-begins}
 use Rattle.vms_cursors.proofs.Goes.{same-runs}
@@ -101,3 +102,24 @@ returns-in-Bury-clause-known g c = c.begin_burial.ensures.known ∙ known-Bury c
 pub returns-in-Bury-clause-within : goal.returns-in-Bury-clause-within
 returns-in-Bury-clause-within g c = λ shape within.
     burial-within c.in-Bury.cpu shape c.begin_burial.result c.begin_burial.ensures.begins
+
+pub returns-in-Turn-clause-begins : goal.returns-in-Turn-clause-begins
+returns-in-Turn-clause-begins g c = λ header base p h.
+    turn_call-begins (record { node = c.in-Turn.node; order = c.in-Turn.order; most = c.in-Turn.most }) header base p
+    g.R.ThresholdRules.pressure g.R.ThresholdRules.normal h c.args.call c.in-Turn.is c.args.owner c.begin_turn.result
+    c.begin_turn.ensures.known c.begin_turn.ensures.begins
+
+pub returns-in-Turn-clause-known : goal.returns-in-Turn-clause-known
+returns-in-Turn-clause-known g c = c.begin_turn.ensures.known
+    ∙ known-Turn c.args.owner c.in-Turn.node c.in-Turn.order c.in-Turn.most
+    ∙ ap (has_cursor c.args.owner) (sym c.in-Turn.is)
+  where
+    known-Turn : (owner : Option CpuId) (n : PlaceId) (order most : ℕ)
+        → owns_none owner ≡ has_cursor owner (page.Turn n order most)
+    known-Turn None n order most = refl
+    known-Turn (Some own) n order most = refl
+
+pub returns-in-Turn-clause-within : goal.returns-in-Turn-clause-within
+returns-in-Turn-clause-within g c = λ shape within.
+    turn_call-within (record { node = c.in-Turn.node; order = c.in-Turn.order; most = c.in-Turn.most }) shape
+    (subst (IsCallWithin shape) c.in-Turn.is within) c.begin_turn.result c.begin_turn.ensures.begins
