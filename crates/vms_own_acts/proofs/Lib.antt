@@ -7,3 +7,4 @@ pub mod StepLists
 pub mod Rows
 pub mod OwnRows
 pub mod Acts
+pub mod Ways

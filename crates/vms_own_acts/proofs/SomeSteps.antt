@@ -1,4 +1,4 @@
--- Each call on the page counters makes a step.
+-- For other crates too: each call on the page counters makes a step.
 use Rattle.std.proofs.Common.{◌≡◌, ℕ, suc, zero, ◌≤◌, ◌/◌, Bool, true, false, List, [], sym, subst, arith, ⊎_elim}
 use Rattle.std.specs.Prelude.{None, Option, Some}
 use Rattle.vms_world.specs.Common.{ByNormal, ByPressure, Choice, CpuId, CpuState, Diffs, Facts, Header, IsLayout}

@@ -3,3 +3,4 @@ pub use Rattle.vms_own_acts.specs.Rules.{IsFunction}
 pub use Rattle.vms_own_acts.specs.Histories.{IsHistoryFor}
 pub use Rattle.vms_own_acts.specs.InRow.{MakesInRow}
 pub use Rattle.vms_own_acts.specs.Along.{Along}
+pub use Rattle.vms_own_acts.specs.Ways.{IsUnderWay}

@@ -1,0 +1,6 @@
+pub mod RaisedPeaks
+pub mod AskedRules
+pub mod Callings
+pub mod WalkSteps
+pub mod WalkAlong
+pub mod OpenedCalls

@@ -1,0 +1,5 @@
+pub mod Rules
+pub mod Peaks
+pub mod Askings
+pub mod Calling
+pub mod Walks
