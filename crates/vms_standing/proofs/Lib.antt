@@ -1,2 +1,2 @@
 mod ReplySteps
-mod PairedLists
+pub mod PairedLists

@@ -1,4 +1,4 @@
--- A loop over the first of two lists, which makes the second.
+-- For other crates too: a loop over the first of two lists, which makes the second.
 use Rattle.std.proofs.Common.{◌≡◌, ℕ, zero, List, [], ◌∷◌, ◌++◌, length, All, sym, refl, subst, arith}
 use Rattle.std.proofs.lemmas.List.{append_assoc, append-nil}
 use Rattle.std.proofs.lemmas.List.Elements.{All-rest}

@@ -1,3 +1,4 @@
 pub mod Replying
 pub mod Pairs
+pub mod Works
 pub mod Common

@@ -36,7 +36,9 @@ impl<J: Drop, D: Answers<J> + Drop> Asked<J, D> {
     }
 
     /// Makes the job, and puts what it gives into its place.
-    pub fn answer<W: Work<J, D>>(self, work: &W) {
+    pub fn answer<W: Work<J, D>>(self, work: &W)
+        requires { W.may_make work.now }
+    {
         let Asked { job, reply } = self;
         let done = work.make(job);
         reply.put(done);
@@ -48,7 +50,9 @@ pub(crate) fn serve<R: Wait, J: Drop, D: Answers<J> + Drop, W: Work<J, D>>(
     rt: &R,
     work: &W,
     jobs: &Receiver<Asked<J, D>>,
-) {
+)
+    requires { W.may_make work.now }
+{
     for _ in rt.forever() {
         let Ok(asked) = jobs.recv(rt) else {
             return;

@@ -6,19 +6,20 @@ use std::thread::Scope;
 
 /// Threads that stand while a scope is open, with the closure that starts one, and with what makes jobs.
 #[derive(Drop)]
-pub struct Crew<'s, 'w, E, C: Starts<E>, W, J, D: Answers<J>> {
+pub struct Crew<'s, 'w, E, C: Starts<E>, W: Work<J, D>, J, D: Answers<J>> {
     scope: &'s Scope<'s, E>,
     begin: C,
     work: &'w W,
     threads: StandingThreads<J, D>,
 }
 
-impl<'s, 'w, E, C: Starts<E>, W, J, D: Answers<J>> Model for Crew<'s, 'w, E, C, W, J, D> {
+impl<'s, 'w, E, C: Starts<E>, W: Work<J, D>, J, D: Answers<J>> Model
+    for Crew<'s, 'w, E, C, W, J, D> {
     ghost Value = { Unit {0} };
 
     ghost view = { λ crew. tt };
 
-    ghost invariant = { λ crew. C.may_start crew.begin };
+    ghost invariant = { λ crew. C.may_start crew.begin × W.may_make crew.work.now };
 }
 
 impl<'s, 'w, E, C: Starts<E>, W: Work<J, D>, J: Drop, D: Answers<J> + Drop> Crew<
@@ -39,7 +40,8 @@ impl<'s, 'w, E, C: Starts<E>, W: Work<J, D>, J: Drop, D: Answers<J> + Drop> Crew
         work: &'w W,
         threads: StandingThreads<J, D>,
     ) -> Crew<'s, 'w, E, C, W, J, D>
-        requires { C.may_start begin }
+        requires begin { C.may_start begin }
+        requires work { W.may_make work.now }
     {
         Crew {
             scope,

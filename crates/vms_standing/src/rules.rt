@@ -10,11 +10,25 @@ pub trait Answers<J> {
     ghost answers: { J → Self → Type 0 };
 }
 
-/// What makes jobs, on any thread.
+/// What makes jobs, on any thread. Every closure over jobs is one, if what it returns answers them.
 pub trait Work<J, D: Answers<J>> {
+    // It may make each job that may be made.
+    ghost may_make: { Self → Type 0 };
+
     fn make(&self, job: J) -> D
-        requires { D.asks job }
+        requires may { may_make self.now }
+        requires asks { D.asks job }
         ensures { D.answers job result };
+}
+
+impl<J, D: Answers<J>, F: Fn(J) -> D> Work<J, D> for F {
+    ghost use Rattle.vms_standing.specs.Works.{Makes};
+
+    ghost may_make = { Makes D.asks D.answers F.Fn };
+
+    fn make(&self, job: J) -> D {
+        self(job)
+    }
 }
 
 /// The rule: an answer that lies in the slot is one of the job.

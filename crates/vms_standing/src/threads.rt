@@ -46,9 +46,16 @@ where
     J: Drop + Send + 's,
     D: Answers<J> + Drop + Send + 's,
     W: Work<J, D> + Sync,
+    requires { W.may_make work.now }
 {
     match &queue.jobs {
-        Some(jobs) => scope.spawn(move || serve(rt, work, jobs)).is_ok(),
+        Some(jobs) => scope
+            .spawn(
+                move ||
+                    requires { W.may_make work.now }
+                { serve(rt, work, jobs) },
+            )
+            .is_ok(),
         None => false,
     }
 }
@@ -77,7 +84,8 @@ impl<J: Drop, D: Answers<J> + Drop> StandingThreads<J, D> {
         number: usize,
         job: J,
     ) -> Result<Arc<Reply<J, D>, Global>, AllocError>
-        requires { D.asks job }
+        requires work { W.may_make work.now }
+        requires may { D.asks job }
         ensures { IfOk result (λ reply. arc_value reply ≡ job) }
     {
         let reply = Arc::new(alloc, Reply::to(alloc, &job)?)?;
@@ -104,7 +112,8 @@ impl<J: Drop, D: Answers<J> + Drop> StandingThreads<J, D> {
         work: &W,
         mut jobs: Vec<J>,
     ) -> Result<Vec<D>, AllocError>
-        requires { All D.asks jobs.items }
+        requires work { W.may_make work.now }
+        requires may { All D.asks jobs.items }
         ensures { IfOk result (λ results. Pairs D.answers jobs.items results.items) }
     {
         let Some(last) = jobs.pop() else {
@@ -125,7 +134,8 @@ impl<J: Drop, D: Answers<J> + Drop> StandingThreads<J, D> {
         work: &W,
         jobs: Vec<J>,
     ) -> Result<Vec<Arc<Reply<J, D>, Global>>, AllocError>
-        requires { All D.asks jobs.items }
+        requires work { W.may_make work.now }
+        requires may { All D.asks jobs.items }
         ensures { IfOk result (λ replies. Pairs (λ job reply. arc_value reply ≡ job) jobs.items replies.items) }
     {
         let mut replies = Vec::new(alloc);

@@ -9,7 +9,7 @@ returns g c =
     let all : c.args.jobs.items ≡ c.pop.new.self.items ++ c.in-Some.last ∷ [] = search rules in
     let grown : c.push.new.self.items ≡ c.in_ok-results.results.items ++ c.make-done.result ∷ [] = search rules in
     let may : g.D.Answers.asks c.in-Some.last =
-    all_last g.D.Answers.asks _ _ (subst (All g.D.Answers.asks) all c.requires) in
+    all_last g.D.Answers.asks _ _ (subst (All g.D.Answers.asks) all c.requires.may) in
     let asked : Pairs (λ job reply. arc_value reply ≡ job) c.pop.new.self.items c.in_ok-replies.replies.items =
     search rules in
     let taken : Pairs (λ reply. g.D.Answers.answers (arc_value reply)) c.in_ok-replies.replies.items
