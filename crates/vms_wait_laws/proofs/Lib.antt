@@ -1,0 +1,2 @@
+pub mod InsidePhases
+pub mod AskingLines

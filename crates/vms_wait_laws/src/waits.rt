@@ -1,0 +1,17 @@
+ghost use Rattle.vms_command.specs.Common.{following};
+ghost use Rattle.vms_replay.specs.Common.{replaying};
+ghost use Rattle.vms_wait_laws.specs.Waits.{AskInsidePhases, WaitInsidePhases};
+
+use vms_command::Body;
+use vms_replay::Engine;
+
+/// The law that outside a phase no text is held back, for every command on a trace whose lines ask only inside a phase:
+/// what waits for the outcome of a phase waits only while the phase is open.
+pub fn bodies_wait_inside_phases<B: Body>()
+    ensures { AskInsidePhases (following B.command) → WaitInsidePhases (following B.command) }
+{}
+
+/// The same of `replay` and `run`, whose lines do: between two phases all is printed that the lines above print.
+pub fn traces_wait_inside_phases<E: Engine>()
+    ensures { WaitInsidePhases (following (replaying E.Makes)) }
+{}
