@@ -7,12 +7,15 @@
 # zones, in phases of 200 lines. For `record` it is a trace of 128,000 lines of bench/phases.py, in phases of 200, and
 # for `certify` what bench/record.rs writes of it, with about 850,000 events.
 #
-#     bench/run.sh replay|check|run|wide|groups|record|certify [N]
+#     bench/run.sh replay|check|run|wide|groups|record|certify [N [loaded]]
 #
 # Both read the trace from a file and write to /dev/null, N times each (21 where no N is given), one after the other in
 # turn. Printed are the median wall time of each, from start to end of its process, the ratio of the medians, and the
 # most memory that each held (VmHWM of /proc, read through one more run that isn't timed). The status is 1 if the two
 # write different outputs or end with different statuses, and 2 if there is nothing to measure.
+#
+# With `loaded` four loops that do nothing run meanwhile, as a build would; the form of the plain program that starts
+# threads, which takes half a minute for a run then, isn't timed.
 #
 # For `run` and `groups` the plain program comes in two forms: `plain` starts a thread for each lane and phase,
 # `standing` has a thread for each lane, which waits for its lines of each phase. What is printed may differ from run to
@@ -29,10 +32,12 @@ asked=${1:-}
 command=$asked
 [ "$asked" = wide ] && command=run
 rounds=${2:-21}
+load=${3:-}
 proved=${VOZHKELL:-$top/crates/vozhkell/out/vozhkell}
 
-if ! [[ $asked =~ ^(replay|check|run|wide|groups|record|certify)$ && $rounds =~ ^[1-9][0-9]*$ ]]; then
-    echo "usage: bench/run.sh replay|check|run|wide|groups|record|certify [N]" >&2
+words="^(replay|check|run|wide|groups|record|certify)$"
+if ! [[ $asked =~ $words && $rounds =~ ^[1-9][0-9]*$ && $load =~ ^(loaded)?$ ]]; then
+    echo "usage: bench/run.sh replay|check|run|wide|groups|record|certify [N [loaded]]" >&2
     exit 2
 fi
 if ! [ -x "$proved" ]; then
@@ -41,7 +46,8 @@ if ! [ -x "$proved" ]; then
 fi
 unset STANDING_THREADS
 work=$(mktemp -d) || exit 2
-trap 'rm -rf "$work"' EXIT
+loops=()
+trap 'for loop in "${loops[@]}"; do kill "$loop"; done; rm -rf "$work"' EXIT
 flags=(-O --edition 2021)
 # The proved program is built for this processor.
 [[ $command =~ ^(run|groups)$ ]] && flags+=(-C target-cpu=x86-64-v2)
@@ -89,6 +95,8 @@ import time
 rounds, trace, command = int(sys.argv[1]), sys.argv[2], sys.argv[3]
 programs = {"proved": (sys.argv[4], {}), "plain": (sys.argv[5], {})}
 if command in ("run", "groups"):
+    if sys.argv[6] == "loaded":
+        del programs["plain"]
     programs["standing"] = (sys.argv[5], {"STANDING_THREADS": "1"})
 
 
@@ -131,7 +139,14 @@ for name in list(programs)[1:]:
     print(f"proved / {name}: {ratios}")
 PYTHON
 
-measured() { python3 "$work/measure.py" "$rounds" "$work/trace" "$command" "$proved" "$work/plain"; }
+measured() { python3 "$work/measure.py" "$rounds" "$work/trace" "$command" "$proved" "$work/plain" "$load"; }
+
+if [ "$load" = loaded ]; then
+    for _ in 1 2 3 4; do
+        while :; do :; done &
+        loops+=($!)
+    done
+fi
 
 case $asked in
     replay | check)
