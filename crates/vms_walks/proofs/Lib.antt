@@ -4,3 +4,4 @@ pub mod Callings
 pub mod WalkSteps
 pub mod WalkAlong
 pub mod OpenedCalls
+pub mod LineActs

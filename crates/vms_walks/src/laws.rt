@@ -1,9 +1,9 @@
-ghost use Rattle.std.specs.Prelude.{◌≡◌, ◌≢◌, ℕ, List, ◌∷◌};
+ghost use Rattle.std.specs.Prelude.{◌≡◌, ◌≢◌, ℕ, List, ◌∷◌, All};
 ghost use Rattle.vms_core.specs.Pages.{History};
-ghost use Rattle.vms_world.specs.Common.{Act, Event, Header, Lane, PageSteps, State, Step};
+ghost use Rattle.vms_world.specs.Common.{Act, Event, Fits, Header, Item, Lane, PageSteps, Start, State, Step, acts_of};
 ghost use Rattle.vms_written.specs.Common.{GoesAlong};
 ghost use Rattle.vms_own_acts.specs.Common.{IsHistoryFor};
-ghost use Rattle.vms_walks.specs.Walks.{StandsAt};
+ghost use Rattle.vms_walks.specs.Walks.{IsPageAct, StandsAt};
 ghost use Rattle.vms_walks.specs.declared.walks.Walk.{Walk};
 
 use crate::RuleFunctions;
@@ -22,3 +22,10 @@ pub fn walks_go_along<R: RuleFunctions>()
 {
     cursors_can_be_completed::<R>();
 }
+
+/// The acts of lines that fit make calls on counters, zones and nodes of the layout, and change a counter by at most
+/// the volume of a CPU.
+pub fn fitting_lines_are_page_acts()
+    ensures { (header : Header) (start : Start) (items : List Item) (lane : Lane) → Fits header start items →
+        All (λ act. IsPageAct header.layout lane act) (acts_of lane items) }
+{}

@@ -12,7 +12,7 @@ mod rules;
 mod settling;
 mod walks;
 
-pub use laws::walks_go_along;
+pub use laws::{fitting_lines_are_page_acts, walks_go_along};
 pub use peaks::ZonePeaks;
 pub use rules::{ExactRules, RuleFunctions};
 pub use walks::Walk;
