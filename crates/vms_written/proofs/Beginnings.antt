@@ -1,4 +1,4 @@
--- The first events of a written phase begin one.
+-- For other crates too: the first events of a written phase begin one.
 use Rattle.std.proofs.Common.{◌≡◌, ℕ, ◌≤◌, List, [], ◌∷◌, ◌++◌, refl, sym, ap, subst, ◌∙◌, append_assoc, arith}
 use Rattle.vms_world.specs.Common.{Header, ZoneSize, Event, begun_in, own, State, Act, Item, MakesActs, PageSteps}
 use Rattle.vms_world.specs.Common.{acts_of, facts_of, owner_in, pages, act as one_act}

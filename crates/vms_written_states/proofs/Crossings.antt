@@ -1,4 +1,4 @@
--- A boundary line that counts leads from page counters of a start to those of what the line makes of it.
+-- For other crates too: a boundary line leads from page counters of a start to those of what the line makes of it.
 use Rattle.std.proofs.Common.{◌≡◌, ℕ, List, Ok, sym, ap, subst}
 use Rattle.vms_text.specs.declared.acts.Boundary.{Boundary as BoundaryOf}
 use Rattle.vms_text.specs.declared.acts.Boundary.TheVariants.{Online, Sync}

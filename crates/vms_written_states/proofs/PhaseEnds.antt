@@ -1,10 +1,12 @@
--- A written phase of lines that fit leads from page counters of a start to those of what the lines make of it.
+-- For other crates too: page counters of a start, as a run begins, and after a written phase of lines that fit.
 use Rattle.std.proofs.Common.{◌≡◌, ℕ, ◌*◌, ◌+◌, ◌^◌, ◌<◌, ◌≤◌, List, length, map, pos, sym, subst, ◌∙◌, arith}
+use Rattle.std.specs.Prelude.{replicate}
 use Rattle.vms_history.proofs.Common.{count_below-same}
 use Rattle.vms_world.specs.Common.{Header, ZoneSize, IsCpu, IsCounter, cell, counter_count, event_count, State, Item}
 use Rattle.vms_world.specs.Common.{Start, start_at_end, line_of, Fits, IsBase, IsWithinVolumes, IsWorldOf, AreVolumes}
 use Rattle.vms_world.specs.Common.{AreWithinVolumes, facts_of, grown, listed_by_cpu, page_volume, page_volume_after}
-use Rattle.vms_world.specs.Common.{settled, spent_on_counter, volume}
+use Rattle.vms_world.specs.Common.{AreAnswers, GivesThresholds, IsHeader, bare_pages, first_start, refreshed, settled}
+use Rattle.vms_world.specs.Common.{spent_on_counter, volume}
 use Rattle.vms_world.specs.declared.worlds.World.{World}
 use Rattle.vms_world.proofs.Common.{get_or-listed_by_cpu}
 use Rattle.vms_world.proofs.ListedReads.{length-listed_by_cpu}
@@ -13,7 +15,7 @@ use Rattle.vms_core.specs.Totals.{spent}
 use Rattle.vms_core.proofs.Common.{IsBase-ended, get_or-copies, within-volumes}
 use Rattle.vms_script.proofs.Common.{FittingScriptsStayWithin-holds}
 use Rattle.vms_file_order.specs.Common.{HasStates, IsStartOf}
-use Rattle.vms_file_order.proofs.Common.{pages-spend_lines}
+use Rattle.vms_file_order.proofs.Common.{IsStartOf-first, pages-spend_lines}
 use Rattle.vms_file_order.proofs.CpuStates.{cpu_at-lines}
 use Rattle.vms_file_order.proofs.PhaseVolumes.{GrowsBy, GrowsBy-lines}
 use Rattle.vms_written.specs.Common.{IsWrittenPhase}
@@ -154,3 +156,11 @@ module _ (header : Header) (pressure normal : ZoneSize → ℕ → ℕ → Type 
       within = FittingScriptsStayWithin-holds header start items fits is.within;
     };
   }
+
+pub IsPageStart-first : (header : Header) → IsHeader header → (normal : ZoneSize → ℕ → ℕ → Type 0)
+    → GivesThresholds normal → (zones : List ℕ) → AreAnswers header normal header.layout.cpus zones
+    → IsPageStart header first_start (refreshed header zones (bare_pages header))
+IsPageStart-first header valid normal gives zones are = record {
+  volumes = replicate (header.layout.cpus * counter_count header.layout) 0;
+  is = IsStartOf-first header valid normal gives zones are;
+}

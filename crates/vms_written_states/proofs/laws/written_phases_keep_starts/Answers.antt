@@ -1,10 +1,8 @@
 -- The first start, each phase and each boundary line.
-use Rattle.std.proofs.Common.{ℕ, ◌*◌, replicate}
-use Rattle.vms_world.specs.Common.{counter_count}
-use Rattle.vms_file_order.proofs.Common.{IsStartOf-first, MayCross-allowed}
+use Rattle.vms_file_order.proofs.Common.{MayCross-allowed}
 use Rattle.vms_written_states.specs.PageStarts.{world_with}
 use Rattle.vms_written_states.proofs.Crossings.{IsPageStart-crossed}
-use Rattle.vms_written_states.proofs.PhaseEnds.{IsPageStart-left}
+use Rattle.vms_written_states.proofs.PhaseEnds.{IsPageStart-first, IsPageStart-left}
 use Rattle.vms_written_states.proofs.laws.written_phases_keep_starts.Goals as goal
 
 pub returns : goal.returns
@@ -12,10 +10,7 @@ returns g c =
     let pressure = g.R.ThresholdRules.pressure in
     let normal = g.R.ThresholdRules.normal in
     record {
-      first = λ header zones valid gives are. record {
-        volumes = replicate (header.layout.cpus * counter_count header.layout) 0;
-        is = IsStartOf-first header valid normal gives zones are;
-      };
+      first = λ header zones valid gives are. IsPageStart-first header valid normal gives zones are;
       phase = λ header start s items h is fits phase.
           IsPageStart-left header pressure normal start s items h is.volumes is.is fits phase;
       may = λ header start s b is known allowed.

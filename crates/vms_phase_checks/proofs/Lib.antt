@@ -1,0 +1,14 @@
+pub mod Frames
+pub mod KeptEvents
+pub mod KeptFaults
+pub mod KeptPhases
+pub mod CheckedSlots
+pub mod CheckedEvents
+pub mod WorksTaken
+pub mod BeginsTaken
+pub mod EndsTaken
+pub mod ActLists
+pub mod WholePhases
+pub mod Shown
+pub mod Tests
+pub mod Opened
