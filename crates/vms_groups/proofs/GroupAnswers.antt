@@ -41,6 +41,8 @@ module _ (lead : TextsLeadOn) (made : List PastGroupPhase) (taken written : List
   made-with statuses.Memory begins led = first led.leads
   made-with statuses.TooLong (inl halts) of_lines = first_of halts.lines halts.judged of_lines.0
   made-with statuses.TooLong (inr oversteps) of_lines = first_of (lines_taken taken) (inl refl) of_lines.0
+  made-with statuses.NotCertified (inl halts) of_lines = first_of halts.lines halts.judged of_lines.0
+  made-with statuses.NotCertified (inr ends) leads = first (inr (ends.ended, ends.within, leads))
 
   SaysGroups-led : (status : Status) → SaysPhased phased shown_by_groups made status taken written at_end
       → SaysGroups made status taken written at_end

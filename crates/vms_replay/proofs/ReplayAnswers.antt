@@ -44,6 +44,8 @@ module _ (Makes : Header → World → List Item → TableHistories → Type 0) 
   made-with statuses.Memory begins led = first led.leads
   made-with statuses.TooLong (inl halts) of_lines = first_of halts.lines halts.judged of_lines.0
   made-with statuses.TooLong (inr oversteps) of_lines = first_of (lines_taken taken) (inl refl) of_lines.0
+  made-with statuses.NotCertified (inl halts) of_lines = first_of halts.lines halts.judged of_lines.0
+  made-with statuses.NotCertified (inr ends) leads = first (inr (ends.ended, ends.within, leads))
 
   pub SaysReplayed-led : (status : Status)
       → SaysPhased phased (shown_given shown_by_replay) made status taken written at_end

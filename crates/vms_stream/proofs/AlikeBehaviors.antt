@@ -137,3 +137,5 @@ module _ {S T : Type 0} (behavior : Behavior S) (other : Behavior T) (alike : S 
     Says-alike statuses.Memory taken written at_end says = BeginsOutput-alike taken written at_end says
     Says-alike statuses.TooLong taken written at_end (inl halts) = inl (Halts-alike _ taken written at_end halts)
     Says-alike statuses.TooLong taken written at_end (inr oversteps) = inr (Oversteps-alike taken written oversteps)
+    Says-alike statuses.NotCertified taken written at_end (inl halts) = inl (Halts-alike _ taken written at_end halts)
+    Says-alike statuses.NotCertified taken written at_end (inr ends) = inr (Ends-alike _ taken written at_end ends)

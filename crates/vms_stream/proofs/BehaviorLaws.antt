@@ -2,7 +2,7 @@
 use Rattle.std.proofs.Common.{◌≡◌, ℕ, List, [], ◌∷◌, ◌++◌, Option, Some, None, refl, sym, ap, ◌∙◌, append_assoc}
 use Rattle.std.proofs.Common.{append-nil}
 use Rattle.vms_stream.specs.declared.statuses.Status.{Status}
-use Rattle.vms_stream.specs.declared.statuses.Status.TheVariants.{Header}
+use Rattle.vms_stream.specs.declared.statuses.Status.TheVariants.{Header, NotCertified}
 use Rattle.vms_stream.specs.Common.{Behavior, MayHalt, state_after, first_halt, halted, printed_from, printed}
 use Rattle.vms_stream.specs.Common.{last_words, output}
 
@@ -46,6 +46,7 @@ module _ {S : Type 0} (behavior : Behavior S) where
   begins_from None line printed all later =
       (later.0, ap (λ (rest : List ℕ). line ++ rest) later.1 ∙ sym (append_assoc line printed later.0))
   begins_from (Some Header) line printed all later = ([], sym (append-nil line))
+  begins_from (Some NotCertified) line printed all later = ([], sym (append-nil line))
   begins_from (Some _) line printed all later = ([], refl)
 
   pub printed-begins : (s : S) (lines more : List (List ℕ))
@@ -78,6 +79,7 @@ module _ {S : Type 0} (behavior : Behavior S) where
   stopped-prints : (halt : Status) (line later other : List ℕ)
       → printed_from (Some halt) line later ≡ printed_from (Some halt) line other
   stopped-prints Header line later other = refl
+  stopped-prints NotCertified line later other = refl
   stopped-prints _ line later other = refl
 
   -- lines stop it with a status that a line may stop it with

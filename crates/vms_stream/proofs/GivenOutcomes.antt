@@ -5,10 +5,10 @@ use Rattle.std.specs.Prelude.{IfOk}
 use Rattle.vms_stream.specs.declared.statuses.Status.{Status}
 use Rattle.vms_stream.specs.declared.statuses.Status.TheVariants.{Header, TooLong}
 use Rattle.vms_stream.specs.Common.{state_after, Closes, TakesLines, PhasedBehavior, ending_at, halt_at, printed_at}
-use Rattle.vms_stream.specs.Common.{printed_last, supply, way_after, with_outcomes, Gives, On, OutcomesLead, UsedAtEnd}
-use Rattle.vms_stream.specs.Common.{leads_on, none_after, ClosesPhased, Grows, MayGive, StandsOn, TakesPhased}
-use Rattle.vms_stream.specs.Common.{at_most_one, shown_on, shown_with}
-use Rattle.vms_stream.proofs.TakenLines.{TakesLines-exceeding, TakesLines-one, TakesLines-refused}
+use Rattle.vms_stream.specs.Common.{printed_from, printed_last, supply, way_after, with_outcomes, Gives, On}
+use Rattle.vms_stream.specs.Common.{OutcomesLead, UsedAtEnd, leads_on, none_after, ClosesPhased, Grows, MayGive}
+use Rattle.vms_stream.specs.Common.{StandsOn, TakesPhased, at_most_one, shown_on, shown_with}
+use Rattle.vms_stream.proofs.TakenLines.{TakesLines-exceeding, TakesLines-one, TakesLines-answered}
 use Rattle.vms_stream.proofs.LeadingOutcomes.{OutcomesLead-none, none_after-used}
 use Rattle.vms_stream.proofs.LongerWays.{StandsOn-also}
 
@@ -62,13 +62,20 @@ module _ {S O : Type 0} (phased : PhasedBehavior S O) where
         (prints ∙ ap (λ (bytes : List ℕ). out ++ bytes) (sym (ap (printed_at phased s line) got)))
         (subst (StandsOn stands') (sym (ap (way_after phased s line) got)) (stands, refl))
 
+    pub TakesLines-given_answered : (halt : Status)
+        → ((text later : List ℕ) → printed_from (Some halt) text later ≡ text)
+        → phased.halts s line given ≡ Some halt → out' ≡ out ++ phased.prints s line given
+        → TakesLines (with_outcomes phased (at_most_one given)) (StandsOn stands') (On s (at_most_one given))
+        (line ∷ []) (Some halt) out out'
+    TakesLines-given_answered halt told stopped prints =
+        TakesLines-answered (with_outcomes phased (at_most_one given)) (StandsOn stands') halt told
+        (On s (at_most_one given)) line out out' (ap (halt_at phased s line) got ∙ stopped)
+        (prints ∙ ap (λ (bytes : List ℕ). out ++ bytes) (sym (ap (printed_at phased s line) got)))
+
     pub TakesLines-given_refused : phased.halts s line given ≡ Some Header → out' ≡ out ++ phased.prints s line given
         → TakesLines (with_outcomes phased (at_most_one given)) (StandsOn stands') (On s (at_most_one given))
         (line ∷ []) (Some Header) out out'
-    TakesLines-given_refused refused prints =
-        TakesLines-refused (with_outcomes phased (at_most_one given)) (StandsOn stands') (On s (at_most_one given))
-        line out out' (ap (halt_at phased s line) got ∙ refused)
-        (prints ∙ ap (λ (bytes : List ℕ). out ++ bytes) (sym (ap (printed_at phased s line) got)))
+    TakesLines-given_refused = TakesLines-given_answered Header (λ text later. refl)
 
     pub TakesLines-given_exceeding : phased.halts s line given ≡ Some TooLong → out' ≡ out
         → TakesLines (with_outcomes phased (at_most_one given)) (StandsOn stands') (On s (at_most_one given))

@@ -2,7 +2,7 @@
 use Rattle.std.proofs.Common.{◌≡◌, ℕ, Bool, true, false, List, [], ◌∷◌, ◌++◌, Option, Some, None, refl, sym, ap, ap₂}
 use Rattle.std.proofs.Common.{subst, ◌∙◌, append_assoc, append-nil}
 use Rattle.vms_stream.specs.declared.statuses.Status.{Status}
-use Rattle.vms_stream.specs.declared.statuses.Status.TheVariants.{Header}
+use Rattle.vms_stream.specs.declared.statuses.Status.TheVariants.{Header, NotCertified}
 use Rattle.vms_stream.specs.Common.{Behavior, state_after, first_halt, halted, printed_from, printed, last_words}
 use Rattle.vms_stream.specs.Common.{PhasedBehavior, OutcomeSupply, Way, halt_at, last_of_way, next_way, printed_at}
 use Rattle.vms_stream.specs.Common.{printed_last, supply, way_after, way_halts, way_prints, with_outcomes, Gives, Lacks}
@@ -17,6 +17,7 @@ pub begins_from : (halt : Option Status) (line front all : List ℕ) → Begins 
 begins_from None line front all begins =
     (begins.0, ap (λ (rest : List ℕ). line ++ rest) begins.1 ∙ sym (append_assoc line front begins.0))
 begins_from (Some Header) line front all begins = ([], sym (append-nil line))
+begins_from (Some NotCertified) line front all begins = ([], sym (append-nil line))
 begins_from (Some _) line front all begins = ([], refl)
 
 -- what lines print, and what comes after the last one
@@ -39,6 +40,7 @@ module _ {S : Type 0} (behavior : Behavior S) where
   words_after None later line printed words all is =
       append_assoc line printed (last_words later words) ∙ ap (λ (rest : List ℕ). line ++ rest) is
   words_after (Some Header) later line printed words all is = append-nil line
+  words_after (Some NotCertified) later line printed words all is = append-nil line
   words_after (Some _) later line printed words all is = refl
 
   pub printed_to-words : (s : S) (lines : List (List ℕ))
@@ -63,6 +65,10 @@ same_line None halt' later later' line line' rest rest' same_halt same_text same
       ∙ ap₂ (λ (front back : List ℕ). front ++ back) same_text (same_rest refl).1,
 )
 same_line (Some Header) halt' later later' line line' rest rest' same_halt same_text same_rest = (
+  ap (λ (halt : Option Status). first_halt halt later') same_halt,
+  ap (λ (halt : Option Status). printed_from halt line' rest') same_halt ∙ same_text,
+)
+same_line (Some NotCertified) halt' later later' line line' rest rest' same_halt same_text same_rest = (
   ap (λ (halt : Option Status). first_halt halt later') same_halt,
   ap (λ (halt : Option Status). printed_from halt line' rest') same_halt ∙ same_text,
 )

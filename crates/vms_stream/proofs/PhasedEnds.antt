@@ -5,7 +5,8 @@ use Rattle.std.specs.Io.KnownBytes.{Appends, Consumes, IsAtEnd}
 use Rattle.std.proofs.KnownBytes.{Appends-nil, Appends-trans, Consumes-nil, Consumes-trans}
 use Rattle.vms_stream.specs.declared.courses.Course.{Course}
 use Rattle.vms_stream.specs.declared.statuses.Status.{Status}
-use Rattle.vms_stream.specs.declared.statuses.Status.TheVariants.{Done, Header, Memory, Refused, WriteFault}
+use Rattle.vms_stream.specs.declared.statuses.Status.TheVariants.{Done, Header, Memory, NotCertified, Refused}
+use Rattle.vms_stream.specs.declared.statuses.Status.TheVariants.{WriteFault}
 use Rattle.vms_stream.specs.declared.statuses.Status.TheVariants as statuses
 use Rattle.vms_stream.specs.Common.{Behavior, Ends, FaultsOfSink, FaultsOfSource, MayEnd, halted, printed, state_after}
 use Rattle.vms_stream.specs.Common.{lines_judged, status_in, FinishesPhased, IsCourse, IsPhasedCourse, StepsPhased}
@@ -110,6 +111,7 @@ module _ {S O : Type 0} (phased : PhasedBehavior S O) (shows : S â†’ Option O â†
         says_ended Done may done = record { says = done; made = leads_end further used }
         says_ended Refused may done = record { says = done; made = leads_end further used }
         says_ended Header may done = record { says = inr done; made = leads_end further used }
+        says_ended NotCertified may done = record { says = inr done; made = leads_end further used }
         says_ended _ may done = absurd may
 
         -- all was written

@@ -7,7 +7,8 @@ use Rattle.std.proofs.KnownBytes.{Appends-nil, Consumes-nil, Consumes-kept}
 use Rattle.vms_io.specs.Common.{Gets}
 use Rattle.vms_stream.specs.declared.courses.Course.{Course}
 use Rattle.vms_stream.specs.declared.statuses.Status.{Status}
-use Rattle.vms_stream.specs.declared.statuses.Status.TheVariants.{Header, Memory, ReadFault, TooLong, WriteFault}
+use Rattle.vms_stream.specs.declared.statuses.Status.TheVariants.{Header, Memory, NotCertified, ReadFault, TooLong}
+use Rattle.vms_stream.specs.declared.statuses.Status.TheVariants.{WriteFault}
 use Rattle.vms_stream.specs.Common.{BeginsOutput, IsLastPiece, lines_taken, most_bytes, Behavior, printed, state_after}
 use Rattle.vms_stream.specs.Common.{IsCourse, StopsAt, lines_held, lines_judged, IsPhasedCourse, StepsPhased}
 use Rattle.vms_stream.specs.Common.{TakesLines, Grows, StandsOn, whole_lines, partial_line, PhasedBehavior, Way}
@@ -302,6 +303,7 @@ module _ {S O : Type 0} (phased : PhasedBehavior S O) (shows : S → Option O �
               → SaysPhased phased shows (outcomes ++ further) h text (written ++ total) (IsAtEnd left')
           says_halted Header may stops made = record { says = inl stops; made = made }
           says_halted TooLong may stops made = record { says = inl stops; made = made }
+          says_halted NotCertified may stops made = record { says = inl stops; made = made }
           says_halted _ may stops made = absurd may
 
           says_stopped : (h : Status) → halt ≡ Some h

@@ -1,7 +1,7 @@
 -- A line, or too many bytes, stop a command without a failed call.
 use Rattle.std.proofs.Common.{◌≡◌, ℕ, List, Option, Some, None, Ok, Err, Result, sym, subst}
 use Rattle.vms_stream.specs.declared.statuses.Status.{Status}
-use Rattle.vms_stream.specs.declared.statuses.Status.TheVariants.{Header, TooLong}
+use Rattle.vms_stream.specs.declared.statuses.Status.TheVariants.{Header, NotCertified, TooLong}
 use Rattle.vms_stream.specs.Common.{FaultsOfSink, FaultsOfSource, Behavior, MayHalt, CountsReads, CountsWrites, StopsAt}
 use Rattle.vms_stream.specs.Common.{TakesLines}
 use Rattle.vms_stream.proofs.BehaviorLaws.{MayHalt-halted}
@@ -22,6 +22,8 @@ module _ {R : Type 0} (bytes : R → Option (List ℕ)) (faults : R → ℕ) (n 
       subst (λ (r : Result (Unit {0}) Status). CountsReads bytes faults r before now) (sym stopped) same
   CountsReads-stopped (Some TooLong) result may stopped =
       subst (λ (r : Result (Unit {0}) Status). CountsReads bytes faults r before now) (sym stopped) same
+  CountsReads-stopped (Some NotCertified) result may stopped =
+      subst (λ (r : Result (Unit {0}) Status). CountsReads bytes faults r before now) (sym stopped) same
   CountsReads-stopped (Some _) result may stopped = absurd may
 
   pub CountsWrites-stopped : (halt : Option Status) (result : Result (Unit {0}) Status) → MayHalt halt
@@ -32,5 +34,7 @@ module _ {R : Type 0} (bytes : R → Option (List ℕ)) (faults : R → ℕ) (n 
   CountsWrites-stopped (Some Header) result may stopped =
       subst (λ (r : Result (Unit {0}) Status). CountsWrites bytes faults r before now) (sym stopped) same
   CountsWrites-stopped (Some TooLong) result may stopped =
+      subst (λ (r : Result (Unit {0}) Status). CountsWrites bytes faults r before now) (sym stopped) same
+  CountsWrites-stopped (Some NotCertified) result may stopped =
       subst (λ (r : Result (Unit {0}) Status). CountsWrites bytes faults r before now) (sym stopped) same
   CountsWrites-stopped (Some _) result may stopped = absurd may

@@ -2,7 +2,7 @@
 use Rattle.std.proofs.Common.{◌≡◌, ◌≢◌, ℕ, ◌==◌, Bool, false, List, [], ◌∷◌, ◌++◌, length, Option, Some, None, sym, ap}
 use Rattle.std.proofs.Common.{subst, ◌∙◌, append_assoc, append-nil, true≢false}
 use Rattle.vms_stream.specs.declared.statuses.Status.{Status}
-use Rattle.vms_stream.specs.declared.statuses.Status.TheVariants.{Header, TooLong}
+use Rattle.vms_stream.specs.declared.statuses.Status.TheVariants.{TooLong}
 use Rattle.vms_stream.specs.Common.{TakesLines, Behavior, state_after, first_halt, halted, printed_from, printed}
 use Rattle.vms_stream.proofs.BehaviorLaws.{state_after-append, halted-append, printed-append, halted-stops}
 use Rattle.vms_text.proofs.Common.{lines_of-begin}
@@ -24,13 +24,14 @@ module _ {S : Type 0} (behavior : Behavior S) (stands : S → Type 0) where
     stands_after = λ _. after;
   }
 
-  pub TakesLines-refused : (s : S) (line out out' : List ℕ) → behavior.halts s line ≡ Some Header
-      → out' ≡ out ++ behavior.prints s line
-      → TakesLines behavior stands s (line ∷ []) (Some Header) out out'
-  TakesLines-refused s line out out' refused prints = record {
-    halt_of = ap (λ (halt : Option Status). first_halt halt None) (sym refused);
-    prints = prints ∙ ap (λ (bytes : List ℕ). out ++ bytes)
-        (ap (λ (halt : Option Status). printed_from halt (behavior.prints s line) []) (sym refused));
+  -- a line that stops the command with a status under which it prints
+  pub TakesLines-answered : (halt : Status) → ((text later : List ℕ) → printed_from (Some halt) text later ≡ text)
+      → (s : S) (line out out' : List ℕ) → behavior.halts s line ≡ Some halt → out' ≡ out ++ behavior.prints s line
+      → TakesLines behavior stands s (line ∷ []) (Some halt) out out'
+  TakesLines-answered halt told s line out out' stopped prints = record {
+    halt_of = ap (λ (halt : Option Status). first_halt halt None) (sym stopped);
+    prints = prints ∙ ap (λ (bytes : List ℕ). out ++ bytes) (sym (told (behavior.prints s line) [])
+        ∙ ap (λ (halt : Option Status). printed_from halt (behavior.prints s line) []) (sym stopped));
     stands_after = λ none. absurd cc;
   }
 

@@ -3,7 +3,7 @@ use Rattle.std.proofs.Common.{◌≡◌, ℕ, Bool, true, false, List, [], ◌�
 use Rattle.std.proofs.Common.{append_assoc, append-nil, flat_map}
 use Rattle.std.proofs.lemmas.Grind.{flat_map-append}
 use Rattle.vms_stream.specs.declared.statuses.Status.{Status}
-use Rattle.vms_stream.specs.declared.statuses.Status.TheVariants.{Header}
+use Rattle.vms_stream.specs.declared.statuses.Status.TheVariants.{Header, NotCertified}
 use Rattle.vms_stream.specs.Common.{output, printed, printed_from, PhasedBehavior, OutcomeSupply, Way, halt_at}
 use Rattle.vms_stream.specs.Common.{last_of_way, printed_at, printed_last, supply, way_after, with_outcomes, Gives}
 use Rattle.vms_stream.specs.Common.{Lacks, On, Short, AllUsed, OutcomesLead, OutcomesLeadThrough, OutcomesLeadToEnd}
@@ -53,6 +53,9 @@ module _ {O : Type 0} where
   stopped-in_order Header [] (Plain bytes) later order = refl
   stopped-in_order Header [] (Asks text) later order = refl
   stopped-in_order Header (first ∷ waits) text later order = refl
+  stopped-in_order NotCertified [] (Plain bytes) later order = refl
+  stopped-in_order NotCertified [] (Asks text) later order = refl
+  stopped-in_order NotCertified (first ∷ waits) text later order = refl
   stopped-in_order _ [] (Plain bytes) later order = refl
   stopped-in_order _ [] (Asks text) later order = refl
   stopped-in_order _ (first ∷ waits) text later order = refl

@@ -3,7 +3,7 @@ use Rattle.std.proofs.Common.{◌≡◌, ℕ, Bool, true, false, List, [], ◌�
 use Rattle.std.proofs.Common.{ap, ◌∙◌, append_assoc, append-nil, flat_map}
 use Rattle.vms_stream.specs.declared.statuses.Status.{Status}
 use Rattle.vms_stream.specs.declared.statuses.Status.TheVariants.{Done, Words, Header, Refused, ReadFault, WriteFault}
-use Rattle.vms_stream.specs.declared.statuses.Status.TheVariants.{Memory, TooLong}
+use Rattle.vms_stream.specs.declared.statuses.Status.TheVariants.{Memory, NotCertified, TooLong}
 use Rattle.vms_stream.specs.Common.{BeginsOutput, Says, lines_taken, output, printed, printed_from, PhasedBehavior, Way}
 use Rattle.vms_stream.specs.Common.{last_of_way, supply, with_outcomes, Gives, Lacks, On, Short, LineTexts, Text}
 use Rattle.vms_stream.specs.Common.{Waiting, ends_at, printed_now, spelled, unless_stopped, waiting, waits_after}
@@ -29,6 +29,11 @@ module _ {O : Type 0} where
       (text_then (Asks text) left (Gives None left) (Some Header) order, refl)
   stopped-begins Header (first ∷ waits) text left later order =
       (after_waits (first ∷ waits) left (text_then text left (Gives None left) (Some Header) order), refl)
+  stopped-begins NotCertified [] (Plain bytes) left later order = ([], sym (append-nil bytes))
+  stopped-begins NotCertified [] (Asks text) left later order =
+      (text_then (Asks text) left (Gives None left) (Some NotCertified) order, refl)
+  stopped-begins NotCertified (first ∷ waits) text left later order =
+      (after_waits (first ∷ waits) left (text_then text left (Gives None left) (Some NotCertified) order), refl)
   stopped-begins halt waits text left later order =
       (after_waits waits left (text_then text left (Gives None left) (Some halt) order), refl)
 
@@ -186,6 +191,13 @@ module _ {S O : Type 0} (texts : LineTexts S O) where
       all_written = halts.whole_output ∙ printed-in_order texts outcomes halts.lines made.0;
     })
     by_status Header (inr ends) made = inr (ends.whole_output ∙ output-in_order texts outcomes (lines_of taken) made)
+    by_status NotCertified (inl halts) made = inl (record {
+      lines = halts.lines;
+      judged = halts.judged;
+      all_written = halts.whole_output ∙ printed-in_order texts outcomes halts.lines made.0;
+    })
+    by_status NotCertified (inr ends) made =
+        inr (ends.whole_output ∙ output-in_order texts outcomes (lines_of taken) made)
     by_status ReadFault goes made =
         goes.all_written
         ∙ ap (printed (with_outcomes phased outcomes) (On phased.start outcomes))

@@ -4,7 +4,7 @@ use Rattle.std.specs.Io.KnownBytes.{Appends, Consumes, IsAtEnd}
 use Rattle.vms_io.specs.Common.{LastFails}
 use Rattle.vms_stream.specs.declared.statuses.Status.{Status}
 use Rattle.vms_stream.specs.declared.statuses.Status.TheVariants.{Done, Words, Header, Refused, ReadFault, WriteFault}
-use Rattle.vms_stream.specs.declared.statuses.Status.TheVariants.{Memory, TooLong}
+use Rattle.vms_stream.specs.declared.statuses.Status.TheVariants.{Memory, NotCertified, TooLong}
 use Rattle.vms_stream.specs.Behaviors.{Behavior, state_after, halted, printed, output}
 use Rattle.vms_stream.specs.Pieces.{whole_lines, partial_line}
 use Rattle.vms_text.specs.Common.{lines_of}
@@ -92,6 +92,8 @@ Says behavior shows WriteFault taken written at_end = BeginsOutput behavior take
 Says behavior shows Memory taken written at_end = BeginsOutput behavior taken written at_end
 Says behavior shows TooLong taken written at_end =
     Halts behavior TooLong taken written at_end ⊎ Oversteps behavior taken written
+Says behavior shows NotCertified taken written at_end =
+    Halts behavior NotCertified taken written at_end ⊎ Ends behavior shows NotCertified taken written at_end
 
 -- which calls failed: where the status says so one read, and no byte was read after it, and else none
 abbrev pub FaultsOfSource : {S : Type 0} → (S → Option (List ℕ)) → (S → ℕ) → Status → S → S → Type 0

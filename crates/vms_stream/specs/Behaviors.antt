@@ -1,13 +1,14 @@
 -- What a command says of the lines of its input.
 use Rattle.std.specs.Prelude.{ℕ, List, [], ◌∷◌, ◌++◌, Option, Some, None}
 use Rattle.vms_stream.specs.declared.statuses.Status.{Status}
-use Rattle.vms_stream.specs.declared.statuses.Status.TheVariants.{Done, Header, Refused, TooLong}
+use Rattle.vms_stream.specs.declared.statuses.Status.TheVariants.{Done, Header, NotCertified, Refused, TooLong}
 
--- a line stops a command where it refuses the header, and where it exceeds a limit
+-- a line stops a command where it refuses the header or is at fault in a written history, and where it exceeds a limit
 abbrev pub MayHalt : Option Status → Type 0
 MayHalt None = Unit {0}
 MayHalt (Some Header) = Unit {0}
 MayHalt (Some TooLong) = Unit {0}
+MayHalt (Some NotCertified) = Unit {0}
 MayHalt (Some _) = ⊥
 
 -- how a command may end at the end of its input
@@ -15,6 +16,7 @@ abbrev pub MayEnd : Status → Type 0
 MayEnd Done = Unit {0}
 MayEnd Refused = Unit {0}
 MayEnd Header = Unit {0}
+MayEnd NotCertified = Unit {0}
 MayEnd _ = ⊥
 
 -- a command as its behavior from line to line, with a state between them
@@ -49,10 +51,12 @@ abbrev pub halted : {S : Type 0} → Behavior S → S → List (List ℕ) → Op
 halted behavior s [] = None
 halted behavior s (line ∷ lines) = first_halt (behavior.halts s line) (halted behavior (behavior.next s line) lines)
 
--- what is printed from a line on: nothing after one that stops the command, and that one prints where it refuses
+-- what is printed from a line on: nothing after one that stops the command, and that one prints where it is refused or at
+-- fault
 abbrev pub printed_from : Option Status → List ℕ → List ℕ → List ℕ
 printed_from None line later = line ++ later
 printed_from (Some Header) line later = line
+printed_from (Some NotCertified) line later = line
 printed_from (Some _) line later = []
 
 -- what these lines print

@@ -4,7 +4,7 @@ use mathlib.Core.Logic.{inl, inr}
 use Rattle.vms_stream.specs.Answers.{TakesAndWrites, BeginsOutput, Says, lines_taken, most_bytes}
 use Rattle.vms_stream.specs.declared.statuses.Status.{Status}
 use Rattle.vms_stream.specs.declared.statuses.Status.TheVariants.{Done, Words, Header, Refused, ReadFault, WriteFault}
-use Rattle.vms_stream.specs.declared.statuses.Status.TheVariants.{Memory, TooLong}
+use Rattle.vms_stream.specs.declared.statuses.Status.TheVariants.{Memory, NotCertified, TooLong}
 use Rattle.vms_text.specs.Common.{lines_of}
 use Rattle.vms_stream.specs.PhasedBehaviors.{PhasedBehavior, with_outcomes}
 use Rattle.vms_stream.specs.PhasedBehaviors.Way.{On}
@@ -55,6 +55,10 @@ AreMade phased shows outcomes taken written at_end Memory begins =
 AreMade phased shows outcomes taken written at_end TooLong (inl halts) = AreOutcomesOf phased outcomes halts.lines
 AreMade phased shows outcomes taken written at_end TooLong (inr oversteps) =
     AreOutcomesOf phased outcomes (lines_taken taken)
+AreMade phased shows outcomes taken written at_end NotCertified (inl halts) =
+    AreOutcomesOf phased outcomes halts.lines
+AreMade phased shows outcomes taken written at_end NotCertified (inr ends) =
+    OutcomesLeadToEnd phased phased.start outcomes (lines_of taken)
 
 -- what each status says, by the outcomes of the phases that were made. `shows` is what the job shows at the end of the
 -- input, where each phase that ended has its outcome

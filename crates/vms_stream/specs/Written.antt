@@ -3,7 +3,7 @@ use Rattle.std.specs.Prelude.{◌≡◌, ◌≤◌, ◌⊎◌, ℕ, List, ◌++�
 use Rattle.vms_stream.specs.Answers.{AreLinesTaken, lines_taken, most_bytes}
 use Rattle.vms_stream.specs.declared.statuses.Status.{Status}
 use Rattle.vms_stream.specs.declared.statuses.Status.TheVariants.{Done, Words, Header, Refused, ReadFault, WriteFault}
-use Rattle.vms_stream.specs.declared.statuses.Status.TheVariants.{Memory, TooLong}
+use Rattle.vms_stream.specs.declared.statuses.Status.TheVariants.{Memory, NotCertified, TooLong}
 use Rattle.vms_stream.specs.Orders.{input_in_order, lines_in_order}
 use Rattle.vms_stream.specs.Waiting.{LineTexts}
 use Rattle.vms_text.specs.Common.{lines_of}
@@ -35,3 +35,5 @@ WritesTextsOf texts outcomes ReadFault taken written at_end =
 WritesTextsOf texts outcomes WriteFault taken written at_end = BeginsInOrder texts outcomes taken written at_end
 WritesTextsOf texts outcomes Memory taken written at_end = BeginsInOrder texts outcomes taken written at_end
 WritesTextsOf texts outcomes TooLong taken written at_end = StopsInOrder texts outcomes taken written at_end
+WritesTextsOf texts outcomes NotCertified taken written at_end =
+    StopsInOrder texts outcomes taken written at_end ⊎ (written ≡ input_in_order texts outcomes (lines_of taken))

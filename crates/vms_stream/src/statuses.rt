@@ -20,6 +20,8 @@ pub enum Status {
     Memory,
     /// The input exceeds a limit, such as 64 MiB.
     TooLong,
+    /// The written history isn't one of its trace.
+    NotCertified = 9,
 }
 
 impl From<Memory> for Status {
