@@ -37,7 +37,8 @@ class ChangedTest(unittest.TestCase):
         self.write("examples/first.vmtrace", "vmtrace 1\n")
         self.write("vozhkell", "#!/usr/bin/env bash\necho program >>\"$CALLS\"\n", 0o755)
         self.write(".ci/own-checks", "echo own-checks >>\"$CALLS\"\n")
-        shutil.copy2(TOP / ".ci" / "changed", self.top / ".ci" / "changed")
+        for name in ("changed", "quick_rt.py"):
+            shutil.copy2(TOP / ".ci" / name, self.top / ".ci" / name)
         tools = Path(room.name, "bin")
         tools.mkdir()
         (tools / "rt").write_text(RT)

@@ -50,6 +50,8 @@ class ScriptTest(unittest.TestCase):
         (self.top / "crates.txt").write_text(CRATES)
         (self.top / "examples" / "first.vmtrace").write_text("vmtrace 1\n")
         shutil.copy2(TOP / "vozhkell", self.top / "vozhkell")
+        (self.top / ".ci").mkdir()
+        shutil.copy2(TOP / ".ci" / "quick_rt.py", self.top / ".ci" / "quick_rt.py")
         tools = Path(room.name, "bin")
         tools.mkdir()
         (tools / "rt").write_text(RT)
