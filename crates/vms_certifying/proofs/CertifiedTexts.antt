@@ -203,8 +203,8 @@ module _ (rules : HistoryRules) (verdicts : List Verdict) (taken written : List 
             written_is = halts.whole_output ∙ prints;
           })
 
-  limited : (halts : Halts behavior TooLong taken written at_end) → OutcomesLead phased phased.start verdicts halts.lines
-      → written ≡ []
+  limited : (halts : Halts behavior TooLong taken written at_end)
+      → OutcomesLead phased phased.start verdicts halts.lines → written ≡ []
   limited halts leads =
       by (stop rules halts.lines verdicts (Heading 1 Opening) halts.lines TooLong verdicts
       (stood-first halts.lines) halts.halt_is leads)

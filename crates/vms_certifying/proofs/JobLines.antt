@@ -354,7 +354,8 @@ module _ {J : Type 0} (rules : HistoryRules) (Gathers : Header → List Segment 
           → IfOk r (λ halt. (s : CertifyState) → stands before s
           → TakesLines (with_outcomes phased []) (StandsOn (stands after)) (On s []) (line ∷ []) halt out out')
       by (Ok halt) goes next =
-          λ s here. from_head before after line out out' next within halt before.work no_trace no_history goes s here.work
+          λ s here. from_head before after line out out' next within halt before.work no_trace no_history goes s
+          here.work
       by (Err error) goes next = tt
 
   -- the history's part takes a line
@@ -369,7 +370,8 @@ module _ {J : Type 0} (rules : HistoryRules) (Gathers : Header → List Segment 
           ap (λ (x : CertifyState). phased.ends_phase x line) here.state_is
           ∙ judged-within (here.first + length here.texts + 1 + length here.lines) (number-within state here)
 
-      may-judge : (verdict : Verdict) → ((first : ℕ) (texts lines : List (List ℕ)) → KeepsWritten Accepts first texts lines part
+      may-judge : (verdict : Verdict)
+          → ((first : ℕ) (texts lines : List (List ℕ)) → KeepsWritten Accepts first texts lines part
           → phased.Allows (Written part.header first texts lines) line verdict)
           → (state : CertifyState) → InWritten Accepts n part state
           → MayGive (phased.ends_phase state line) (phased.Allows state line) (Some verdict)
@@ -390,7 +392,8 @@ module _ {J : Type 0} (rules : HistoryRules) (Gathers : Header → List Segment 
       written-goes added header refused takes =
           TakesPhased-given phased (made_by old) (made_by new) line out out (Ok None) (InWritten Accepts n part)
           (InWritten Accepts (suc n) part') (Some Taken) (ap Some added)
-          (may-judge Taken (λ first texts lines keeps. (takes (segments_in part.header first texts) lines keeps.accepts).0))
+          (may-judge Taken
+          (λ first texts lines keeps. (takes (segments_in part.header first texts) lines keeps.accepts).0))
           (λ state here.
           let keeps = here.keeps in
           let first = here.first in
@@ -465,8 +468,9 @@ module _ {J : Type 0} (rules : HistoryRules) (Gathers : Header → List Segment 
         → ending ≡ phased.ends (Written part.header first texts lines) (Some verdict))
         (prints : (first : ℕ) (texts lines : List (List ℕ)) → n ≡ first + length texts + 1 + length lines
         → out' ≡ out ++ phased.last (Written part.header first texts lines) (Some verdict)) where
-      pub written-ends : {E : Type 0} → ClosesPhased {E = E} phased (InWritten Accepts n part) shown_nothing (made_by old)
-          (made_by new) (Ok ending) out out'
+      pub written-ends : {E : Type 0}
+          → ClosesPhased {E = E} phased (InWritten Accepts n part) shown_nothing (made_by old) (made_by new)
+          (Ok ending) out out'
       written-ends =
           ClosesPhased-given phased shown_nothing (made_by old) (made_by new) out out' (Ok ending)
           (InWritten Accepts n part) (Some verdict) (ap Some added)
@@ -509,7 +513,8 @@ module _ {J : Type 0} (rules : HistoryRules) (Gathers : Header → List Segment 
     -- in a trace, without a history
     pub trace-ends : {E : Type 0} (part : TracePart J) (old new : Verdicts) → job.work ≡ works.Trace part
         → verdicts_of new ≡ verdicts_of old ++ Refused Incomplete ∷ [] → out' ≡ out ++ fault_line job.line Incomplete
-        → ClosesPhased {E = E} phased (stands job) shown_nothing (made_by old) (made_by new) (Ok statuses.Header) out out'
+        → ClosesPhased {E = E} phased (stands job) shown_nothing (made_by old) (made_by new) (Ok statuses.Header) out
+        out'
     trace-ends part old new is added prints =
         ClosesPhased-given phased shown_nothing (made_by old) (made_by new) out out' (Ok statuses.Header) (stands job)
         (Some (Refused Incomplete)) (ap Some added)
@@ -535,8 +540,8 @@ module _ {J : Type 0} (rules : HistoryRules) (Gathers : Header → List Segment 
         (Grows-nil (made_by old))) (λ s here. tt) tt
 
     -- in a history
-    pub history-ends : {E : Type 0} (part : WrittenPart J) (made made' : Option (List Verdict)) (result : Result Status E)
-        → job.work ≡ works.Written part
+    pub history-ends : {E : Type 0} (part : WrittenPart J) (made made' : Option (List Verdict))
+        (result : Result Status E) → job.work ≡ works.Written part
         → ClosesPhased phased (InWritten Accepts job.line part) shown_nothing made made' result out out'
         → ClosesPhased phased (stands job) shown_nothing made made' result out out'
     history-ends part made made' result is closed =

@@ -120,8 +120,8 @@ module _ {J : Type 0} (Gathers : Header → List Segment → J → Type 0) where
         → HasEnded Gathers part part' lines
     ended-some_script one part' some_item same none script is adds =
         ended-some one part' some_item same none
-        (subst (λ (items : List Item). (header : Header) (segments : List Segment) → Gathers header segments part.history
-        → Gathers header (segments ++ Phase items ∷ []) part'.history) is adds)
+        (subst (λ (items : List Item). (header : Header) (segments : List Segment)
+        → Gathers header segments part.history → Gathers header (segments ++ Phase items ∷ []) part'.history) is adds)
 
     -- past a line that is no boundary line
     module _ (n : ℕ) (said : Result Line LineCause) (part' : TracePart J) where
@@ -191,7 +191,8 @@ module _ {J : Type 0} (Gathers : Header → List Segment → J → Type 0) where
             opens = ap (λ (items : List Item). has_none items) none;
             done = segments_of lines ++ Between n boundary ∷ [];
             cut = subst (λ (items : List Item). IsCut (lines ++ record { number = n; result = Ok (Boundary boundary) }
-                ∷ []) (segments_of lines ++ Between n boundary ∷ []) items) (sym none) (cut-boundary cuts lines n boundary);
+                ∷ []) (segments_of lines ++ Between n boundary ∷ []) items) (sym none)
+                (cut-boundary cuts lines n boundary);
             gathers = subst (λ (h : Header). Gathers h (segments_of lines ++ Between n boundary ∷ []) part'.history)
                 (sym header) (subst (λ (j : J). Gathers part.header (segments_of lines ++ Between n boundary ∷ []) j)
                 (sym (ap (λ (p : TracePart J). p.history) same)) (has.gathers n));
@@ -237,7 +238,8 @@ module _ {J : Type 0} (Gathers : Header → List Segment → J → Type 0) where
           (more ∙ ap (λ (k : ℕ). k + 1) (ap (λ (p : TracePart J). p.reports) has.same ∙ keeps.reports)
           ∙ add-one (reports_in above.lines)
           ∙ sym (ap (λ (b : Bool). if b then suc (reports_in above.lines) else reports_in above.lines) reports))
-          (sym (ap (λ (b : Bool). exceeds (b && nat_le most_reports (reports_in above.lines))) reports ∙ ap exceeds within))
+          (sym (ap (λ (b : Bool). exceeds (b && nat_le most_reports (reports_in above.lines))) reports
+          ∙ ap exceeds within))
 
       -- or a report too many
       pub over-report : is_report boundary ≡ true → most_reports ≤ part.reports
@@ -261,7 +263,8 @@ module _ {J : Type 0} (Gathers : Header → List Segment → J → Type 0) where
       halt_is = refl;
       same = ap (λ (p : TracePart J). p.header) same;
       judge = ap (λ (p : TracePart J). p.judge) same;
-      keeps = λ none. keeps-push n (Err cause) part' (λ boundary is. absurd cc) (ap (λ (p : TracePart J). p.header) same)
+      keeps = λ none. keeps-push n (Err cause) part' (λ boundary is. absurd cc)
+          (ap (λ (p : TracePart J). p.header) same)
           (ap (λ (p : TracePart J). p.history) same)
           (ap (λ (p : TracePart J). p.items.items) same ∙ sym (append-nil part.items.items))
           (more ∙ ap (λ (k : ℕ). k + 1) keeps.refused ∙ add-one above.refused)
@@ -352,8 +355,9 @@ module _ {J : Type 0} (Gathers : Header → List Segment → J → Type 0) where
         }
 
   -- whatever the lines are judged by
-  keeps-judge : (lines : List NumberedLine) (above : LinesAbove) (part : TracePart J) → KeepsLines Gathers lines above part
-      → (judge : LineJudge) → KeepsLines Gathers lines above (record part { judge = judge })
+  keeps-judge : (lines : List NumberedLine) (above : LinesAbove) (part : TracePart J)
+      → KeepsLines Gathers lines above part → (judge : LineJudge)
+      → KeepsLines Gathers lines above (record part { judge = judge })
   keeps-judge lines above part k judge = record {
     header = k.header;
     refused = k.refused;

@@ -52,7 +52,8 @@ cut-never [] (text ∷ texts) ending written is none ends =
 cut-never (line ∷ trace) [] ending written is none ends = absurd cc
 cut-never (line ∷ trace) (text ∷ texts) ending written is none ends =
     let tails : trace ++ ending ∷ written ≡ texts = cc in
-    cut-never trace texts ending written tails (All-tail (λ (l : List ℕ). is_history_line l ≡ false) text texts none) ends
+    cut-never trace texts ending written tails
+    (All-tail (λ (l : List ℕ). is_history_line l ≡ false) text texts none) ends
 
 -- a text has one header
 pub record IsOneHeader (header : Header) (first : ℕ) (body : List (List ℕ)) (header' : Header) (first' : ℕ)

@@ -106,7 +106,8 @@ module _ (rules : HistoryRules) (all : List (List ℕ)) (given : List Verdict) w
         by is (by_limits halt-is nothing) = by_limits halt-is (is ∙ nothing)
         by is (by_header fault halt-is refused within prints none) =
             by_header fault halt-is refused within (is ∙ prints) (same ∙ none)
-        by is (by_history n cause halt-is fault prints some) = by_history n cause halt-is fault (is ∙ prints) (same ∙ some)
+        by is (by_history n cause halt-is fault prints some) =
+            by_history n cause halt-is fault (is ∙ prints) (same ∙ some)
 
   -- what is to be shown of lines from a state on
   abbrev Stops : CertifyState → List (List ℕ) → Status → Type 0

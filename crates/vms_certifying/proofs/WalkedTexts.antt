@@ -296,8 +296,8 @@ module _ (rules : HistoryRules) (all : List (List ℕ)) (given : List Verdict) w
         let s : CertifyState = Heading n stage in
         let halts = halts-none s line lines verdicts verdicts None refl none in
         let read = by_limit {X = refuses (head_line stage line) ≡ None} n
-        (λ beyond. absurd (none-limited (sym (ap (λ (b : Bool). if b then Some TooLong else refuses (head_line stage line))
-        beyond) ∙ halts)))
+        (λ beyond. absurd (none-limited
+        (sym (ap (λ (b : Bool). if b then Some TooLong else refuses (head_line stage line)) beyond) ∙ halts)))
         (λ within. sym (ap (λ (b : Bool). if b then Some TooLong else refuses (head_line stage line)) within) ∙ halts)
         in
         further s line lines verdicts verdicts None refl refl halts (none-printed n (head_line stage line) read)

@@ -11,8 +11,8 @@ use Rattle.vms_certifying.specs.JobStates.{shown_nothing}
 use Rattle.vms_certifying.specs.Statuses.{certify_status}
 use Rattle.vms_certifying.specs.Verdicts.{has_refused}
 
--- what is said of what was taken and written: by the behavior of the command from line to line, with the verdicts on the
--- lines of the history, and by the text
+-- what is said of what was taken and written: by the behavior of the command from line to line, with the verdicts on
+-- the lines of the history, and by the text
 pub record SaysVerdicts (rules : HistoryRules) (verdicts : List Verdict) (ended : Status) (taken written : List ℕ)
     (at_end : Type 0) : Type 0 where
   pub line_by_line : SaysPhased (certifying rules) shown_nothing verdicts ended taken written at_end

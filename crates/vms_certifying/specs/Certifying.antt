@@ -130,7 +130,8 @@ ends_as (Trace header first texts) given = statuses.Header
 ends_as (Written header first texts lines) given = ended_by (trace_above header texts).refused given
 
 -- with these statuses a line may stop a command, and a command may end
-MayHalt-if : (over : Bool) (halt : Option Status) → MayHalt halt → MayHalt (if over then Some statuses.TooLong else halt)
+MayHalt-if : (over : Bool) (halt : Option Status) → MayHalt halt
+    → MayHalt (if over then Some statuses.TooLong else halt)
 MayHalt-if true halt may = tt
 MayHalt-if false halt may = may
 

@@ -4,7 +4,6 @@ ghost use Rattle.vms_base.specs.Common.{IsHeader};
 ghost use Rattle.vms_base.specs.declared.headers.Header.{Header};
 ghost use Rattle.vms_script.specs.Common.{AreSegments, Between, Phase, Segment, first_start};
 ghost use Rattle.vms_certifying.specs.HistoryRules.{HistoryRules};
-ghost use Rattle.vms_certifying.specs.Laws.{FaultsStay};
 ghost use Rattle.vms_certifying.specs.Judging.{IsJudgeError, IsNeverWhole};
 
 use crate::JudgeError;
@@ -23,9 +22,6 @@ pub struct Counted {
 /// What judges the lines after `history 1`. It is given the trace first, segment by segment.
 pub trait HistoryJudge: Drop + Sized {
     ghost rules: { HistoryRules };
-
-    // a line at fault is so whatever lines follow it
-    ghost stay: { FaultsStay rules };
 
     // it was given these segments of a trace
     ghost Gathers: { Header → List Segment → Self → Type 0 };
@@ -59,8 +55,8 @@ pub trait HistoryJudge: Drop + Sized {
     /// Takes the next line, without its newline, unless it is at fault.
     fn step(&mut self, header: &Header, line: &[u8]) -> Result<(), JudgeError>
         requires header { IsHeader header.now }
-        requires stands { (segments : List Segment) × (lines : List (List ℕ)) × Accepts header.now segments lines self.old
-            × (length lines < 1000000) }
+        requires stands { (segments : List Segment) × (lines : List (List ℕ))
+            × Accepts header.now segments lines self.old × (length lines < 1000000) }
         ensures { (segments : List Segment) (lines : List (List ℕ)) → Accepts header.now segments lines self.old →
             MatchResult result
             (λ _. rules.Begins header.now segments (lines ++ line.now ∷ [])
@@ -70,7 +66,8 @@ pub trait HistoryJudge: Drop + Sized {
     /// How long the history is that the lines so far are, if they are a whole one.
     fn finish(&self, header: &Header) -> Option<Counted>
         requires header { IsHeader header.now }
-        requires stands { (segments : List Segment) × (lines : List (List ℕ)) × Accepts header.now segments lines self.now }
+        requires stands { (segments : List Segment) × (lines : List (List ℕ))
+            × Accepts header.now segments lines self.now }
         ensures { (segments : List Segment) (lines : List (List ℕ)) → Accepts header.now segments lines self.now →
             MatchOption result (IsNeverWhole rules header.now segments lines)
             (λ counted. rules.IsWhole header.now segments lines counted.phases counted.events) };

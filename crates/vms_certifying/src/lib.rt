@@ -1,5 +1,5 @@
-//! The command `certify`: it reads a trace and a history that is written after it, and says whether the history is one of
-//! the trace, or the first line at fault. What judges the lines of the history is a trait.
+//! The command `certify`: it reads a trace and a history that is written after it, and says whether the history is one
+//! of the trace, or the first line at fault. What judges the lines of the history is a trait.
 #![tactic(auto)]
 
 mod errors;

@@ -6,7 +6,6 @@ pub returns-clause-at_fault : goal.returns-clause-at_fault
 returns-clause-at_fault g c =
     FaultsAreFinal-holds c.header_is_settled.ensures g.J.HistoryJudge.rules
     (λ lines header count is. (c.headers_are_writable.ensures lines header count is).is_header)
-    g.J.HistoryJudge.stay
 
 pub returns-clause-cut_off : goal.returns-clause-cut_off
 returns-clause-cut_off g c =
