@@ -8,25 +8,15 @@ made from. This writes the stamp, as the kit's own code computes it, for each li
 it was made from. Where the kit's code isn't as this script knows it, or a library is missing or older, nothing is
 written: then `rt lib` proves and builds what it lacks, and takes longer.
 """
-import functools
-import importlib.util
 import os
 import shutil
 import sys
 from pathlib import Path
 
+from quick_rt import asking_once, loaded, remembering
+
 TOP = Path(__file__).resolve().parent.parent
 PARTS = ("src", "specs", "proofs")
-
-
-def kit_code():
-    """The kit's code that tells crates and stamps."""
-    code = Path(os.path.realpath(shutil.which("rt"))).parent / "rtlib.py"
-    spec = importlib.util.spec_from_file_location("rtlib", code)
-    made = importlib.util.module_from_spec(spec)
-    sys.modules["rtlib"] = made
-    spec.loader.exec_module(made)
-    return made
 
 
 def newest(folder):
@@ -36,10 +26,8 @@ def newest(folder):
 
 
 def mark(name):
-    kit = kit_code()
-    # each crate is reached on many ways, and no file changes meanwhile
-    kit.Crate.stamp = functools.lru_cache(maxsize=None)(kit.Crate.stamp)
-    kit.Crate.below = functools.lru_cache(maxsize=None)(kit.Crate.below)
+    kit = loaded(os.path.realpath(shutil.which("rt"))).rtlib
+    kit.Crate.stamp, kit.Crate.below = remembering(kit.Crate.stamp), asking_once(kit.Crate.below)
     crates = {crate.name: crate for crate in kit.crates_below(str(TOP))}
     listed = (TOP / "crates.txt").stat().st_mtime
     marked = 0

@@ -1,0 +1,11 @@
+mod TextLines
+mod CutLines
+mod KeptLines
+mod JobLines
+mod WalkedTexts
+mod StoppedTexts
+mod CertifiedTexts
+mod OneHistory
+mod VerdictLists
+mod HeadLines
+mod CommandAnswers

@@ -1,0 +1,13 @@
+pub mod HistoryLines
+pub mod HistoryRules
+pub mod Judging
+pub mod Printing
+pub mod Verdicts
+pub mod Statuses
+pub mod Certifying
+pub mod TraceParts
+pub mod WrittenParts
+pub mod JobStates
+pub mod Certificates
+pub mod Laws
+pub mod Answers

@@ -1,0 +1,7 @@
+-- The value stays.
+use Rattle.std.proofs.Common.{◌≡◌}
+use Rattle.std.specs.Arc.{arc_value}
+use Rattle.vms_standing_phase.proofs.owners.owned.Given as goal
+
+abbrev pub invariant-loop : goal.invariant-loop
+invariant-loop g l = arc_value l.shared ≡ arc_value l.initial.shared

@@ -1,0 +1,47 @@
+ghost use Rattle.vms_standing_phase.specs.Lanes.{MayBeMade, WasMade, lane_job};
+
+use crate::shares::{PhaseShare, StandingJob};
+use std::sync::Wait;
+use vms_base::Memory;
+use vms_calc::{Rule, Rules};
+use vms_lane::{CountedLines, Gate, Host, LaneLines, LanePasses};
+use vms_phase::{LaneDone, LaneJob, run_job};
+use vms_text::Lane;
+
+/// Makes the lines of a lane, whatever the other lanes make meanwhile. When it returns it holds nothing of the phase
+/// but the passes. It may wait for the locks of percpu counters.
+pub fn make_job<R: Wait, G: Gate, N: Rule + Copy, P: Rule + Copy>(
+    host: &Host<'_, R, G>,
+    job: StandingJob<N, P>,
+) -> Result<LaneDone, Memory>
+    requires { MayBeMade N.accepts N.answers P.accepts P.answers job }
+    ensures { WasMade P.answers N.answers job result }
+{
+    let StandingJob {
+        share,
+        lane,
+        passes,
+    } = job;
+    make_lane(host, &*share, lane, passes)
+}
+
+fn make_lane<R: Wait, G: Gate, N: Rule + Copy, P: Rule + Copy>(
+    host: &Host<'_, R, G>,
+    share: &PhaseShare<N, P>,
+    lane: Lane,
+    passes: LanePasses,
+) -> Result<LaneDone, Memory>
+    requires { MayBeMade N.accepts N.answers P.accepts P.answers
+        (record { share = share.now; job = lane_job lane passes share.now.script }) }
+    ensures { WasMade P.answers N.answers
+        (record { share = share.now; job = lane_job lane passes share.now.script }) result }
+{
+    let rules = Rules::make(share.normal, share.pressure);
+    let counted = CountedLines::of(host.alloc, &share.header, &share.script)?;
+    let job = LaneJob {
+        lane,
+        passes,
+        lines: LaneLines::of(&counted, lane),
+    };
+    run_job(host, &share.tables, &share.header, &rules, job)
+}

@@ -1,0 +1,4 @@
+pub mod OnlineStates
+pub mod OtherRatings
+pub mod OtherCalls
+pub mod OtherPhases
