@@ -1,0 +1,11 @@
+pub mod KernelAnswers
+pub mod PageRooms
+pub mod Ways
+pub mod OneWay
+pub mod CrossedBounds
+pub mod WholeSoFar
+pub mod TakenEvents
+pub mod PhaseLines
+pub mod BegunPhases
+pub mod FinalFaults
+pub mod OneVerdict

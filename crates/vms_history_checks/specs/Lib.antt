@@ -1,0 +1,6 @@
+pub mod Crossings
+pub mod Bounds
+pub mod Leads
+pub mod Said
+pub mod Accepts
+pub mod Says
