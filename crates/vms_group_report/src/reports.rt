@@ -1,7 +1,7 @@
-ghost use Rattle.std.specs.Prelude.{◌≡◌, ◌≤◌, ◌++◌, ◌+ℤ◌, ◌^◌, length, unsigned_abs, OnOk};
+ghost use Rattle.std.specs.Prelude.{◌≡◌, ◌≤◌, ◌++◌, ◌+ℤ◌, ◌^◌, length, unsigned_abs, OnErr, OnOk};
 ghost use Rattle.vms_group_core.specs.Common.{HasShape, IsGroup, IsTree, as_is, group_count, standing, value_at};
 ghost use Rattle.vms_group_report.specs.Reports.{group_lines, group_words, pending_under as pending_below};
-ghost use Rattle.vms_text.specs.Common.{sentence};
+ghost use Rattle.vms_text.specs.Common.{sentence, Begins};
 
 use crate::pendings::pending_under;
 use itoa::Buffer;
@@ -10,7 +10,8 @@ use vms_group_core::{GroupState, Tree};
 use vms_text::{Word, write_words};
 
 /// Appends a line for each group of a tree, in order of declaration: `NAME value V pending P total T`, where V is the
-/// group's value, P all that is pending in its subtree, and T both in sum.
+/// group's value, P all that is pending in its subtree, and T both in sum. After a failure `out` may end in a part of
+/// it.
 pub fn write_group_report(
     out: &mut Vec<u8>,
     names: &[Name],
@@ -20,8 +21,9 @@ pub fn write_group_report(
     requires tree { IsTree tree.now }
     requires shaped { HasShape tree.now words.now }
     requires names { length names.now ≡ group_count tree.now }
-    ensures { OnOk result (out.new.items ≡ out.old.items
+    ensures ok { OnOk result (out.new.items ≡ out.old.items
         ++ group_lines names.now tree.now words.now (standing as_is tree.now words.now)) }
+    ensures err { OnErr result (Begins out.old.items out.new.items) }
 {
     for (number, name) in names.iter().enumerate() {
         write_group(out, name, tree, words, number as u32)?;
@@ -40,9 +42,10 @@ fn write_group(
     requires tree { IsTree tree.now }
     requires shaped { HasShape tree.now words.now }
     requires group { IsGroup tree.now group }
-    ensures { OnOk result (out.new.items ≡ out.old.items ++ sentence (group_words name.now
+    ensures ok { OnOk result (out.new.items ≡ out.old.items ++ sentence (group_words name.now
         (value_at words.now group) (pending_below tree.now words.now group)
         (standing as_is tree.now words.now group))) }
+    ensures err { OnErr result (Begins out.old.items out.new.items) }
 {
     let value = words.value.get(group as usize);
     let pending = pending_under(tree, words, group);
@@ -52,8 +55,9 @@ fn write_group(
 /// Appends `NAME value V pending P total T`, where T is V and P in sum.
 fn write_numbers(out: &mut Vec<u8>, name: &[u8], value: i64, pending: i128) -> Result<(), Memory>
     requires { unsigned_abs pending ≤ 2 ^ 80 }
-    ensures { OnOk result (out.new.items
+    ensures ok { OnOk result (out.new.items
         ≡ out.old.items ++ sentence (group_words name.now value pending (value +ℤ pending))) }
+    ensures err { OnErr result (Begins out.old.items out.new.items) }
 {
     let mut pending_buffer = Buffer::new();
     let mut total_buffer = Buffer::new();

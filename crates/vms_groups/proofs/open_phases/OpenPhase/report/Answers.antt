@@ -16,4 +16,4 @@ returns c =
     c.write_group_report.result
     (subst (λ (names : List (List ℕ)). OnOk c.write_group_report.result (c.write_group_report.new.out.items
     ≡ c.extend_from_slice.new.self.items ++ group_lines names tree words (standing as_is tree words)))
-    c.as_slice.ensures c.write_group_report.ensures)
+    c.as_slice.ensures c.write_group_report.ensures.ok)

@@ -1,0 +1,12 @@
+//! Whether a written history of page events is one of a text: its checker, by the kernel's rules of thresholds.
+#![tactic(auto)]
+
+mod laws;
+
+pub use laws::made_histories_are_certified;
+pub use vms_history_checks::{BoundaryAt, CheckError, Counted, HistoryCheck};
+pub use vms_line_walks::LineWalk;
+pub use vms_phase_checks::EventCause;
+
+/// The checker of a written history.
+pub type Checker = HistoryCheck<LineWalk>;
