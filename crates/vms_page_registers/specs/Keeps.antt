@@ -1,7 +1,8 @@
 -- What the registers of the page counters keep of a history.
 use Rattle.std.specs.Prelude.{ℕ}
 use Rattle.vms_core.specs.declared.steps.Facts.{Facts}
-use Rattle.vms_core.specs.Common.{History}
+use Rattle.vms_core.specs.Common.{History, pages}
+use Rattle.vms_registers.specs.Shows.{Parts, Shows}
 use Rattle.vms_page_words.specs.Words.{KeepsWords}
 use Rattle.vms_page_passes.specs.Keeps.{KeepsPassNotes}
 use Rattle.vms_page_peaks.specs.Keeps.{KeepsPeaks}
@@ -12,3 +13,7 @@ pub record KeepsPages (facts : Facts) (h : History) (held : ℕ → ℕ) (r : Pa
   pub words : KeepsWords facts h r.words
   pub passes : KeepsPassNotes facts h held r.passes
   pub peaks : KeepsPeaks facts h r.peaks
+
+-- registers of passes and of the page counters are those after a history
+abbrev pub ShowsPages : Facts → History → Parts PageRegisters → Type 0
+ShowsPages facts h r = Shows pages (λ facts. facts.layout.cpus) KeepsPages facts h r

@@ -48,6 +48,14 @@ impl PageRegisters {
         self.words.settled(alloc)
     }
 
+    /// The numbers that stand.
+    #[inline]
+    pub fn words(&self) -> &PageWords
+        ensures { result.now ≡ self.now.words }
+    {
+        &self.words
+    }
+
     /// Whether a CPU is online, dead or absent.
     pub fn cpu(&self, cpu: CpuId) -> CpuState
         requires { (facts : FactsOf) × (h : History) × (held : ℕ → ℕ) × IsLegal pages facts h

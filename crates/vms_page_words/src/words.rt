@@ -1,11 +1,11 @@
 ghost use Rattle.std.specs.Prelude.{◌≡◌, ◌<◌, ◌↔◌, ℕ, IsTrue, length, pos};
-ghost use Rattle.vms_history.specs.Common.{IsCounter, IsCpu, IsGroup, IsPlace, IsZone};
-ghost use Rattle.vms_core.specs.Common.{HasShape, TellsGroup, cpu_at, diff_at, mark_at, threshold_at};
-ghost use Rattle.vms_core.specs.Common.{threshold_sets_at};
+ghost use Rattle.vms_history.specs.Common.{IsCounter, IsCpu, IsGroup, IsItem, IsPlace, IsZone};
+ghost use Rattle.vms_core.specs.Common.{HasShape, TellsGroup, acknowledged_at, cpu_at, diff_at, mark_at, mark_sets_at};
+ghost use Rattle.vms_core.specs.Common.{system_at, threshold_at, threshold_sets_at, value_at};
 ghost use Rattle.vms_page_words.specs.Words.{state_of};
 
-use crate::cells::{counter_cell, group_cell, place_cell};
-use vms_base::{CounterId, CpuId, CpuState, Diffs, GroupId, PlaceId, Row};
+use crate::cells::{counter_cell, group_cell, place_cell, zone_cell};
+use vms_base::{CounterId, CpuId, CpuState, Diffs, GroupId, ItemId, PlaceId, Row};
 use vms_core::Facts;
 
 /// The numbers of the page counters that stand after a history, in pages of 4096 bytes. Unlike a `State` they count
@@ -64,6 +64,60 @@ impl PageWords {
         ensures { result ≡ mark_at (state_of self.now) zone.number }
     {
         self.mark.get(zone.number as usize)
+    }
+
+    /// How often the drift mark of a zone was set.
+    #[inline]
+    pub fn mark_sets(&self, facts: &Facts, zone: PlaceId) -> u64
+        requires shaped { HasShape facts.now.layout (state_of self.now) }
+        requires zone { IsZone facts.now.layout zone.number }
+        ensures { result ≡ mark_sets_at (state_of self.now) zone.number }
+    {
+        self.mark_sets.get(zone.number as usize)
+    }
+
+    /// The global value of a counter, in pages.
+    #[inline]
+    pub fn value(&self, facts: &Facts, counter: CounterId) -> i64
+        requires shaped { HasShape facts.now.layout (state_of self.now) }
+        requires counter { IsCounter facts.now.layout counter.number }
+        ensures { result ≡ value_at (state_of self.now) counter.number }
+    {
+        self.place.get(counter.number as usize)
+    }
+
+    /// The system-wide value of an item, in pages.
+    #[inline]
+    pub fn system(&self, facts: &Facts, item: ItemId) -> i64
+        requires shaped { HasShape facts.now.layout (state_of self.now) }
+        requires item { IsItem facts.now.layout item.number }
+        ensures { result ≡ system_at (state_of self.now) item.number }
+    {
+        self.system.get(item.number as usize)
+    }
+
+    /// The differentials of a CPU in a group, in pages.
+    pub fn group(&self, facts: &Facts, cpu: CpuId, group: GroupId) -> [i64; 8]
+        requires shaped { HasShape facts.now.layout (state_of self.now) }
+        requires cpu { IsCpu facts.now.layout cpu.number }
+        requires group { IsGroup facts.now.layout group.number }
+        ensures { TellsGroup (state_of self.now) cpu.number group.number result }
+    {
+        let start = group_cell(&facts.layout, cpu, group);
+        let mut list = [0; 8];
+        list.copy_from_slice(&self.diff.as_slice()[start..start + 8]);
+        list
+    }
+
+    /// The number of a zone's threshold that a CPU acknowledged last: none where it has acknowledged nothing.
+    #[inline]
+    pub fn acknowledged(&self, facts: &Facts, cpu: CpuId, zone: PlaceId) -> Option<u32>
+        requires shaped { HasShape facts.now.layout (state_of self.now) }
+        requires cpu { IsCpu facts.now.layout cpu.number }
+        requires zone { IsZone facts.now.layout zone.number }
+        ensures { result ≡ acknowledged_at (state_of self.now) cpu.number zone.number }
+    {
+        self.acknowledged.get(zone_cell(&facts.layout, cpu, zone))
     }
 
     /// Whether a CPU is online, dead or absent.

@@ -1,0 +1,11 @@
+pub mod StandingPages
+pub mod EventLines
+pub mod WrittenActs
+pub mod LanePlaces
+pub mod LinedLanes
+pub mod Openings
+pub mod PhaseStarts
+pub mod Closings
+pub mod MadeLines
+pub mod Moved
+pub mod PhaseEnds
