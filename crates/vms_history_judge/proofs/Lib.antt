@@ -1,0 +1,3 @@
+mod GivenSegments
+mod StayingFaults
+mod TakenLines

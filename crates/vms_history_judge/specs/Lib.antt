@@ -1,0 +1,3 @@
+pub mod WrittenRules
+pub mod Takes
+pub mod Judges
