@@ -22,7 +22,8 @@ with_lines-append (first ∷ saids) more hs =
     by (with_said first hs) (λ next. with_lines-append saids more next)
   where
     by : (next : Option (List History))
-        → ((hs : List History) → with_lines (saids ++ more) hs ≡ option_and_then (with_lines more) (with_lines saids hs))
+        → ((hs : List History) → with_lines (saids ++ more) hs
+        ≡ option_and_then (with_lines more) (with_lines saids hs))
         → option_and_then (with_lines (saids ++ more)) next
         ≡ option_and_then (with_lines more) (option_and_then (with_lines saids) next)
     by None rest = refl
@@ -49,6 +50,6 @@ pub FaultsStay-holds : (pressure normal : ZoneSize → ℕ → ℕ → Type 0)
     → with_lines (said ∷ more) hs ≡ Some all → ¬ IsWrittenHistory header pressure normal segments (reverse all))
     → FaultsStay (written_rules pressure normal)
 FaultsStay-holds pressure normal final header segments lines line cause after phases events valid are fault whole =
-    final header segments fault.0 (read_line header.layout line) cause (map (read_line header.layout) after) whole.0 valid
-    (in-turn header first_start segments are) fault.2
+    final header segments fault.0 (read_line header.layout line) cause (map (read_line header.layout) after) whole.0
+    valid (in-turn header first_start segments are) fault.2
     (sym (lists-append header lines (line ∷ after) fault.0 fault.1) ∙ whole.1) whole.2

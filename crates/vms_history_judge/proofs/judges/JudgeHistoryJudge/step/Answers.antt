@@ -17,5 +17,5 @@ pub returns-in-Some : goal.returns-in-Some
 returns-in-Some g c = λ segments lines took.
     let old = c.args.self.now in
     says-step g.W.LaneWalk.Stands g.W.LaneWalk.pressure g.W.LaneWalk.normal c.args.header.now segments lines
-    c.args.line.now old (record old { check = Some c.take.new.check }) c.in-Some.check c.take.new.check c.in-Some.is refl
-    c.take.result c.take.ensures took
+    c.args.line.now old (record old { check = Some c.take.new.check }) c.in-Some.check c.take.new.check c.in-Some.is
+    refl c.take.result c.take.ensures took
