@@ -1,0 +1,2 @@
+pub mod KernelThresholds
+pub mod RecordedWays
