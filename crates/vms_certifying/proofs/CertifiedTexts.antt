@@ -214,6 +214,18 @@ module _ (rules : HistoryRules) (verdicts : List Verdict) (taken written : List 
       by (by_header fault halt-is refused within prints none) = absurd cc
       by (by_history n cause halt-is fault prints some) = absurd cc
 
+  -- a line at fault stops the job as one does that refuses the header
+  never-halts : (halts : Halts behavior statuses.NotCertified taken written at_end)
+      → OutcomesLead phased phased.start verdicts halts.lines → ⊥
+  never-halts halts leads =
+      by (stop rules halts.lines verdicts (Heading 1 Opening) halts.lines statuses.NotCertified verdicts
+      (stood-first halts.lines) halts.halt_is leads)
+    where
+      by : StopsAs rules halts.lines verdicts statuses.NotCertified (printed behavior behavior.start halts.lines) → ⊥
+      by (by_limits halt-is nothing) = absurd cc
+      by (by_header fault halt-is refused within prints none) = absurd cc
+      by (by_history n cause halt-is fault prints some) = absurd cc
+
   -- nothing is printed where nothing stops it
   quiet : (lines : List (List ℕ)) → halted behavior behavior.start lines ≡ None
       → OutcomesLead phased phased.start verdicts lines → printed behavior behavior.start lines ≡ []
@@ -251,3 +263,10 @@ module _ (rules : HistoryRules) (verdicts : List Verdict) (taken written : List 
           → written ≡ []
       by (inl halts) made = limited halts made.0
       by (inr oversteps) made = oversteps.whole_output ∙ quiet (lines_taken taken) oversteps.none_halts made.0
+  SaysCertify-phased statuses.NotCertified says = by says.says says.made
+    where
+      by : (at : Halts behavior statuses.NotCertified taken written at_end
+          ⊎ Ends behavior (shown_on phased shown_nothing) statuses.NotCertified taken written at_end)
+          → AreMade phased shown_nothing verdicts taken written at_end statuses.NotCertified at → ⊥
+      by (inl halts) made = never-halts halts made.0
+      by (inr ends) made = says-end statuses.NotCertified ends made

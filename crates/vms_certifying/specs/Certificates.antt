@@ -132,4 +132,5 @@ SaysCertify rules (Ended ReadFault) taken written at_end = written ≡ []
 SaysCertify rules (Ended WriteFault) taken written at_end = Unit {0}
 SaysCertify rules (Ended Memory) taken written at_end = Unit {0}
 SaysCertify rules (Ended TooLong) taken written at_end = written ≡ []
+SaysCertify rules (Ended statuses.NotCertified) taken written at_end = ⊥
 SaysCertify rules NotCertified taken written at_end = RefusesHistory rules taken written at_end
