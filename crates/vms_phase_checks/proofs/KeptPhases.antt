@@ -1,4 +1,4 @@
--- Events that keep to the lines of a phase, and phases of them.
+-- For other crates too: events that keep to the lines of a phase, and phases of them.
 use Rattle.std.proofs.Common.{◌≡◌, ◌≢◌, ℕ, ◌<◌, ◌≤◌, Bool, true, false, List, ◌++◌, Option, Some, None, sym, ap, subst}
 use Rattle.std.proofs.Common.{◌∙◌, arith, refl, inl, inr, ◌⊎◌}
 use Rattle.vms_world.specs.Common.{Header, CpuId, ZoneSize, State, Step, Act, Item, Lane, MakesActs, PageSteps, acts_of}

@@ -1,4 +1,4 @@
--- What tests of the code say.
+-- For other crates too: what tests of the code say.
 use Rattle.std.proofs.Common.{◌≡◌, ◌≢◌, ℕ, ◌==◌, Bool, true, false, true≢false, List, [], ◌∷◌, length, refl, sym, ap}
 use Rattle.std.proofs.Common.{◌∙◌, arith, ne_eqb, suc}
 use Rattle.std.specs.Prelude.{Option, Some, None, IsTrue, MatchBool, is_some, not}

@@ -1,4 +1,4 @@
--- Where a walk stands its pass goes along the acts.
+-- For other crates too: where a walk stands its pass goes along the acts.
 use Rattle.std.proofs.Common.{◌≡◌, ◌≢◌, ℕ, List, [], ◌∷◌, ◌++◌, drop, take, sym, ap, subst, ◌∙◌, append_assoc}
 use Rattle.std.proofs.lemmas.List.{take-append-drop}
 use Rattle.std.specs.Prelude.{None, Option, Some}

@@ -1,4 +1,4 @@
--- A phase whose lanes' passes began in order is a written phase.
+-- For other crates too: a phase whose lanes' passes began in order is a written phase.
 use Rattle.std.proofs.Common.{◌≡◌, ℕ, suc, ◌-◌, ◌≤◌, true, List, sym, ap, subst, ◌∙◌, arith}
 use Rattle.vms_world.specs.Common.{Header, ZoneSize, Event, Role, Act, Item, Lane, HasLanes, MakesActs, MakesLines}
 use Rattle.vms_world.specs.Common.{PageSteps, State, acts_of, begun_in, facts_of, is_among, lane_at, lanes_of, owner_in}
