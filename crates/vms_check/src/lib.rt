@@ -2,9 +2,11 @@
 //! count.
 #![tactic(auto)]
 
+mod accepted_lines;
 mod bodies;
 mod laws;
 mod tool;
 
+pub use accepted_lines::write_accepted;
 pub use laws::{checks_again, writes_its_text};
 pub use tool::tool_check;

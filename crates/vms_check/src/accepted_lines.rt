@@ -1,0 +1,35 @@
+ghost use Rattle.std.specs.Prelude.{◌≡◌, ◌++◌, ◌∷◌, [], IfSome, OnOk};
+ghost use Rattle.vms_base.specs.Common.{IsHeader};
+ghost use Rattle.vms_line.specs.Common.{IsLineOf, spelled_line};
+ghost use Rattle.vms_check.specs.Checking.{accepted_line};
+
+use vms_base::{Header, Memory};
+use vms_line::{Line, write_line};
+
+/// Appends a line that counts in its one spelling, whose bytes may be at hand, and nothing for a blank one.
+pub fn write_accepted(
+    out: &mut Vec<u8>,
+    header: &Header,
+    line: &Line,
+    spelled: Option<&[u8]>,
+) -> Result<(), Memory>
+    requires header { IsHeader header.now }
+    requires line { IsLineOf header.now line.now }
+    requires spelled { IfSome spelled (λ text. spelled_line header.now line.now ≡ text.now ++ 10 ∷ []) }
+    ensures { OnOk result (out.new.items ≡ out.old.items ++ accepted_line header.now line.now) }
+{
+    match (line, spelled) {
+        (Line::Blank, _) => Ok(()),
+        (_, Some(text)) => copy_line(out, text),
+        (_, None) => write_line(out, header, line),
+    }
+}
+
+/// Appends these bytes, and the one that ends a line.
+fn copy_line(out: &mut Vec<u8>, text: &[u8]) -> Result<(), Memory>
+    ensures { OnOk result (out.new.items ≡ out.old.items ++ (text.now ++ 10 ∷ [])) }
+{
+    out.extend_from_slice(text)?;
+    out.push(b'\n')?;
+    Ok(())
+}
