@@ -1,0 +1,2 @@
+pub mod KernelAnswers
+pub mod PageRooms

@@ -1,0 +1,4 @@
+pub mod EventLines
+pub mod PhaseTexts
+pub mod OpenPhases
+pub mod FittingItems

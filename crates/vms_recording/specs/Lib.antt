@@ -1,0 +1,4 @@
+pub mod Written
+pub mod PhaseParts
+pub mod Recording
+pub mod Common
