@@ -1,0 +1,113 @@
+-- What the command answers, from what the copy of the trace answered and what followed it.
+use Rattle.std.proofs.Common.{◌≡◌, ◌≢◌, ◌⊎◌, ◌∙◌, ℕ, List, [], ◌++◌, Option, Some, append-nil, inl, inr, refl, sym, ap, subst}
+use Rattle.std.proofs.lemmas.Option.{same_Some}
+use Rattle.std.specs.Io.KnownBytes.{Appends, IsAtEnd}
+use Rattle.std.proofs.KnownBytes.{Appends-nil, Appends-trans}
+use Rattle.vms_command.specs.Common.{following, shown_given}
+use Rattle.vms_stream.specs.Common.{AnswersPhased, FaultsOfSink, FaultsOfSource, SaysPhased, TakesAndWrites, waiting}
+use Rattle.vms_stream.specs.declared.statuses.Status.{Status}
+use Rattle.vms_stream.specs.declared.statuses.Status.TheVariants.{Done, Memory, ReadFault, Refused, WriteFault}
+use Rattle.vms_stream.specs.declared.statuses.Status.TheVariants as statuses
+use Rattle.vms_trace_parts.specs.Common.{CopiesTexts, TracePart, copying, shown_by_copy}
+use Rattle.vms_record.specs.Answers.{FollowsCopy, SaysRecord}
+use Rattle.vms_record.specs.Histories.{AfterCopy, GoesOnWith, RecordsAfter}
+
+-- no read failed where the copy came to the end of the trace
+read-on : {S : Type 0} (left : S → Option (List ℕ)) (faults : S → ℕ) (src src' : S) (status : Status)
+    → status ≢ ReadFault → faults src' ≡ faults src → FaultsOfSource left faults status src src'
+read-on left faults src src' ReadFault none same = absurd (none refl)
+read-on left faults src src' _ none same = same
+
+goes_on-reads : (parts : List TracePart) (ended status : Status) (history : List ℕ) → ended ≢ ReadFault
+    → GoesOnWith parts ended status history → status ≢ ReadFault
+goes_on-reads parts ended status history none (inl (is, recorded)) = λ read. none (sym is ∙ read)
+goes_on-reads parts ended status history none (inr (inl is, begins)) = λ read. let clash : Memory ≡ ReadFault = sym is ∙ read in absurd cc
+goes_on-reads parts ended status history none (inr (inr is, begins)) = λ read. let clash : WriteFault ≡ ReadFault = sym is ∙ read in absurd cc
+
+-- a fault of the sink after writes that didn't fail
+write-on : {K : Type 0} (held : K → Option (List ℕ)) (faults : K → ℕ) (out mid out' : K) (status : Status)
+    → faults mid ≡ faults out → FaultsOfSink held faults status mid out' → FaultsOfSink held faults status out out'
+write-on held faults out mid out' WriteFault same last = record {
+  failing = last.failing;
+  none_before = last.none_before ∙ same;
+  once = last.once;
+  none_after = last.none_after;
+}
+write-on held faults out mid out' _ same counts = counts ∙ same
+
+module _ {S K : Type 0} (left : S → Option (List ℕ)) (read_faults : S → ℕ) (held : K → Option (List ℕ))
+    (write_faults : K → ℕ) (src src' : S) (out : K) (parts : List TracePart) (copies : CopiesTexts) where
+  abbrev Copies : K → Status → Type 0
+  Copies mid ended = AnswersPhased (waiting (following copying)) (shown_given shown_by_copy) (Some []) (Some parts) left
+      read_faults held write_faults src src' out mid ended
+
+  abbrev Goal : K → Status → Type 0
+  Goal out' status = TakesAndWrites left read_faults held write_faults src src' out out' status SaysRecord
+
+  module _ (mid : K) (ended : Status) (copied : Copies mid ended) where
+    says : SaysPhased (waiting (following copying)) (shown_given shown_by_copy) parts ended copied.answers.taken
+        copied.answers.written (IsAtEnd (left src'))
+    says =
+        subst (λ (outcomes : List TracePart). SaysPhased (waiting (following copying)) (shown_given shown_by_copy) outcomes
+        ended copied.answers.taken copied.answers.written (IsAtEnd (left src')))
+        (sym (same_Some parts copied.outcomes copied.grows)) copied.answers.answer
+
+    -- what followed
+    joined : (out' : K) (status : Status) (history : List ℕ) → Appends (held mid) (held out') history
+        → FollowsCopy parts ended status history → FaultsOfSource left read_faults status src src'
+        → FaultsOfSink held write_faults status out out' → Goal out' status
+    joined out' status history appends follows reads writes = record {
+      taken = copied.answers.taken;
+      written = copied.answers.written ++ history;
+      consumes = copied.answers.consumes;
+      appends = Appends-trans (held out) (held mid) (held out') copied.answers.written history copied.answers.appends
+          appends;
+      answer = record {
+        parts = parts;
+        ended = ended;
+        copied = copied.answers.written;
+        history = history;
+        written_is = refl;
+        line_by_line = says;
+        by_text = copies parts ended copied.answers.taken copied.answers.written (IsAtEnd (left src')) says;
+        follows = follows;
+      };
+      reads = reads;
+      writes = writes;
+    }
+
+    -- the copy didn't come to the end, and nothing followed
+    stopped : (out' : K) (status : Status) → FollowsCopy parts ended ended [] → out' ≡ mid → status ≡ ended
+        → Goal out' status
+    stopped out' status follows same is =
+        subst (λ (s : Status). Goal out' s) (sym is)
+        (subst (λ (o : K). Goal o ended) (sym same)
+        (joined mid ended [] (Appends-nil (held mid)) follows copied.answers.reads copied.answers.writes))
+
+  pub SaysRecord-after : (mid out' : K) (ended status : Status) → Copies mid ended
+      → AfterCopy held write_faults ended parts mid out' status → Goal out' status
+  SaysRecord-after mid out' Done status copied after =
+      joined mid Done copied out' status after.history after.appends after.goes_on
+      (read-on left read_faults src src' status
+      (goes_on-reads parts Done status after.history (λ (is : Done ≡ ReadFault). cc) after.goes_on) copied.answers.reads)
+      (write-on held write_faults out mid out' status copied.answers.writes after.writes)
+  SaysRecord-after mid out' Refused status copied after =
+      joined mid Refused copied out' status after.history after.appends after.goes_on
+      (read-on left read_faults src src' status
+      (goes_on-reads parts Refused status after.history (λ (is : Refused ≡ ReadFault). cc) after.goes_on)
+      copied.answers.reads)
+      (write-on held write_faults out mid out' status copied.answers.writes after.writes)
+  SaysRecord-after mid out' statuses.Words status copied (same, is) =
+      stopped mid statuses.Words copied out' status (refl, refl) same is
+  SaysRecord-after mid out' statuses.Header status copied (same, is) =
+      stopped mid statuses.Header copied out' status (refl, refl) same is
+  SaysRecord-after mid out' ReadFault status copied (same, is) =
+      stopped mid ReadFault copied out' status (refl, refl) same is
+  SaysRecord-after mid out' WriteFault status copied (same, is) =
+      stopped mid WriteFault copied out' status (refl, refl) same is
+  SaysRecord-after mid out' Memory status copied (same, is) =
+      stopped mid Memory copied out' status (refl, refl) same is
+  SaysRecord-after mid out' statuses.TooLong status copied (same, is) =
+      stopped mid statuses.TooLong copied out' status (refl, refl) same is
+  SaysRecord-after mid out' statuses.NotCertified status copied (same, is) =
+      stopped mid statuses.NotCertified copied out' status (refl, refl) same is

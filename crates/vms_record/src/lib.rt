@@ -1,0 +1,7 @@
+//! The command `record`: it writes a trace, and after it the page events that its lines make in their order.
+#![tactic(auto)]
+
+mod histories;
+mod tool;
+
+pub use tool::tool_record;
