@@ -27,8 +27,9 @@ from large_rows import EVENTS, NODE, ZONE
 
 TOP = os.path.dirname(os.path.dirname(os.path.abspath(__file__)))
 DONE, WORDS, HEADER, REFUSED, READ, WRITE, MEMORY = range(7)
+NOT_CERTIFIED = 9
 PANIC = 101
-PROVED_USAGE = b"usage: check | replay | run | gen SEED CPUS LINES | groups\n"
+PROVED_USAGE = b"usage: check | replay | run | gen SEED CPUS LINES | groups | certify\n"
 # What `gen 1 1 1` prints: its one line adds 19 pages to an item.
 SMALLEST_MADE = b"line 8: report totals\n" + b"".join(b"%s %d\n" % (counter.encode(), {
     "0 Normal nr_free_pages": 1_000_000, "0 Normal nr_zone_unevictable": 19}.get(counter, 0)) for counter in [
@@ -153,7 +154,12 @@ class Trials:
         self.of_groups = [self.row("groups", "groups_" + name) for name in ("flush_of_a_part", "refused_lines_wait")]
         # One CPU, in phases of a hundred lines.
         longs.append(("groups", made_by("groups.py", "1", "20000", "1", "64", "100")))
+        history = run([plain["record"], "record"], self.long)[1]
+        longs.append(("certify", history))
         self.readers += self.of_groups
+        self.certified = [self.row("certify", "history_" + name)
+                          for name in ("after_refused_lines", "in_a_random_order", "of_a_change")]
+        self.readers += self.certified
         self.longs = [self.call(command, text, *run([plain[command], command], text)) for command, text in longs]
         self.made = [self.call("gen 1 1 1", b"", DONE, SMALLEST_MADE)] if "gen" in programs else []
 
@@ -166,12 +172,13 @@ class Trials:
         rows = os.path.join(TOP, "bench", "rows")
         with open(os.path.join(rows, "statuses")) as statuses:
             status = int(dict(line.split()[:2] for line in statuses)[name])
-        with open(os.path.join(rows, name + (".vmgroups" if command == "groups" else ".vmtrace")), "rb") as trace, \
+        kind = {"groups": ".vmgroups", "certify": ".vmhistory"}.get(command, ".vmtrace")
+        with open(os.path.join(rows, name + kind), "rb") as trace, \
                 open(os.path.join(rows, name + ".out"), "rb") as out:
             return self.call(command, trace.read(), status, out.read())
 
     def all_words(self):
-        """The words of each command that reads a trace of page counters."""
+        """The words of each command that answers lines of a trace of page counters."""
         return [[self.programs[command], command] for command in ("check", "replay", "run")]
 
     # Reading.
@@ -202,7 +209,7 @@ class Trials:
             step = 9973 if call in self.longs else 1 if call is self.burial or call in self.of_groups else 7
             for size in range(0, len(text) + 1, step):
                 lines = text[:size].count(b"\n")
-                if lines < header:
+                if lines < header or call in self.certified:
                     said = b""
                 elif call is self.spelled:
                     said = text[:text.rindex(b"\n", 0, size) + 1]
@@ -272,7 +279,8 @@ class Trials:
                    (DONE, wanted.get(words[1], told + b"done accepted 18000 refused 0\n")))
 
     def folder_as_input(self):
-        answers = [(words, (READ, b"")) for words in [*self.all_words(), self.of_groups[0].words]]
+        answers = [(words, (READ, b""))
+                   for words in [*self.all_words(), self.of_groups[0].words, self.certified[0].words]]
         for words, answer in answers + [(call.words, call.answer) for call in self.made]:
             folder = os.open(TOP, os.O_RDONLY)
             done = subprocess.run(words, stdin=folder, stdout=subprocess.PIPE, timeout=60)
@@ -281,7 +289,7 @@ class Trials:
 
     def refused_header_comes_first(self):
         """What is wrong with a line that was read is answered before a read that fails."""
-        for words in self.all_words():
+        for words in [*self.all_words(), self.certified[0].words]:
             found = from_socket(words, [b"vmtrace 1\ncpus 65\n"], fails=True)
             expect(f"a refused header under {words[1]}", found, (HEADER, b"line 2: BadCpus\n"))
             found = from_socket(words, [b"vmtrace 1\ncpus 65"], fails=True)
@@ -291,6 +299,17 @@ class Trials:
         expect("a refused header of groups", found, (HEADER, b"line 3: UnknownGroup\n"))
         found = from_socket(words, [b"vmgroups 1\ncpus 1\ngroup a b"], fails=True)
         expect("a line of groups without its end", found, (READ, b""))
+
+    def fault_comes_first(self):
+        """So is a line of a history that is at fault. What needs the end of the input is answered there alone."""
+        head = b"vmtrace 1\ncpus 1\nzone 0 Normal 262144 100 125 150\ngo\nc0 inc 0 Normal nr_mlock\nhistory 1\nphase\n"
+        words = self.certified[0].words
+        for more, said in [(b"0 Split 2 0\n", b"line 8: Illegal\n"), (b"0 Split 1 0\nphase\n", b"line 9: NotInScript\n"),
+                           (b"0 Split\n1 LoadT 0 10 0\n", b"line 8: BadEvent\n")]:
+            found = from_socket(words, [head + more], fails=True)
+            expect(f"a failed read after {more!r}", found, (NOT_CERTIFIED, said))
+        for more in (b"", b"0 Split 1 0\n", b"0 Split 2 0"):
+            expect(f"a failed read after {more!r}", from_socket(words, [head + more], fails=True), (READ, b""))
 
     def cut_inputs(self):
         """The input ends after each byte: a whole `go` tells a refused header from a trace. Of a trace the whole lines
@@ -326,6 +345,9 @@ class Trials:
         return self.readers + self.made + [
             self.call("replay", b"vmtrace 3\n", HEADER, b"line 1: BadMagic\n"),
             self.call("groups", b"vmgroups 3\n", HEADER, b"line 1: BadMagic\n"),
+            self.call("certify", b"vmtrace 3\n", HEADER, b"line 1: BadMagic\n"),
+            self.call("certify", b"vmtrace 1\ncpus 1\nzone 0 Normal 262144 100 125 150\ngo\n", NOT_CERTIFIED,
+                      b"line 5: Incomplete\n"),
             self.call("replay none", b"", WORDS, PROVED_USAGE if "gen" in self.programs else b"usage: replay\n"),
         ]
 
@@ -420,15 +442,16 @@ class Trials:
 
 
 CASES = ["short_reads", "slow_pipe", "early_output", "failing_reads", "failed_read_in_a_phase", "folder_as_input",
-         "refused_header_comes_first", "cut_inputs", "full_device", "closed_pipe", "reader_that_leaves",
-         "pipe_that_refuses", "limited_files", "want_of_memory"]
+         "refused_header_comes_first", "fault_comes_first", "cut_inputs", "full_device", "closed_pipe",
+         "reader_that_leaves", "pipe_that_refuses", "limited_files", "want_of_memory"]
 
 
 def main():
     # A plain program that finds no memory while it writes the stack of a panic may hang.
     os.environ["RUST_BACKTRACE"] = "0"
     with tempfile.TemporaryDirectory() as folder:
-        plain = {command: built(command, folder) for command in ("check", "replay", "run", "groups")}
+        plain = {command: built(command, folder) for command in ("check", "replay", "run", "groups", "record",
+                                                               "certify")}
         proved = os.environ.get("VOZHKELL")
         trials = Trials(dict.fromkeys((*plain, "gen"), proved) if proved else plain, plain)
         failed = 0

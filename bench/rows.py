@@ -3,8 +3,8 @@
 
     bench/rows.py [NAME]
 
-The programs are bench/check.rs, bench/replay.rs, bench/run.rs and bench/groups.rs, or the one that VOZHKELL names,
-called with the word of the command. With a NAME they get the rows of that name alone, and the whole difference is
+The programs are bench/check.rs, bench/replay.rs, bench/run.rs, bench/groups.rs and bench/certify.rs, or the one that
+VOZHKELL names, called with the word of the command. With a NAME they get the rows of that name alone, and the whole difference is
 shown. The status is 1 if an answer differs, and 2 if there is no such row.
 
 In bench/rows there are
@@ -12,6 +12,10 @@ In bench/rows there are
   refused header is answered alike by all three. Where a phase has lines of two lanes, they race in three runs, and what
   is the same in every order is compared (bench/agree.py);
 - NAME.vmgroups with NAME.out, of `groups`;
+- NAME.vmhistory with NAME.out, of `certify`;
+- `spoiled_lines`: the number of a line of history_of_a_change.vmhistory, what `certify` says of it with another line in
+  its place, as the number and the cause, and that line. `end` for the number is a line after the last one, and for the
+  line nothing stands there;
 - `statuses`: the status of each NAME, and `same` where lanes race and every order gives the same bytes;
 - `headers`: the line at fault and its cause, and the text, with escapes as in C;
 - `watermarks`: KBYTES, SCALE, the managed pages of a zone and of all, and its watermarks, as `check` writes them;
@@ -32,17 +36,17 @@ import sys
 import tempfile
 
 from agree import fixed
-from faults import WORDS, HEADER, built, from_socket, run
+from faults import HEADER, NOT_CERTIFIED, WORDS, built, from_socket, run
 from large_rows import Large, large_rows
 
 TOP = os.path.dirname(os.path.dirname(os.path.abspath(__file__)))
 ROWS = os.path.join(TOP, "bench", "rows")
-COMMANDS = ("check", "replay", "run", "groups")
+COMMANDS = ("check", "replay", "run", "groups", "certify")
 PIECES = (1, 7, 64)
 MOST_IN_PIECES = 4096
 RUNS_OF_A_RACE = 3
 MOST_ZONE = 1 << 40
-USAGE = b"usage: check | replay | run | gen SEED CPUS LINES | groups\n"
+USAGE = b"usage: check | replay | run | gen SEED CPUS LINES | groups | certify\n"
 # That of the plain program, which has its own word alone.
 USAGE_OF_REPLAY = b"usage: replay\n"
 BOUNDARIES = {b"sync", b"flush", b"offline", b"online", b"report"}
@@ -168,10 +172,12 @@ def ask_all(answers, wanted_name):
         if wanted_name not in (None, name):
             continue
         rows += 1
-        groups = contents(name + ".vmgroups")
+        groups, history = contents(name + ".vmgroups"), contents(name + ".vmhistory")
         out = contents(name + ".out")
         if groups is not None:
             answers.ask("groups", name, groups, (int(status), out))
+        elif history is not None:
+            answers.ask("certify", name, history, (int(status), out))
         else:
             answers.ask_of_trace(name, contents(name + ".vmtrace"), int(status), out, contents(name + ".check"), same)
     for name, make in large_rows():
@@ -191,6 +197,17 @@ def ask_all(answers, wanted_name):
             text = ast.literal_eval("b" + text)
             answers.ask_of_trace(f"the header {line[:100]}", text, HEADER, f"line {number}: {cause}\n".encode(), None,
                                  False)
+            answers.ask("certify", f"the header {line[:100]}", text,
+                        (HEADER, f"line {number}: {cause}\n".encode()))
+    if wanted_name in (None, "spoiled_lines"):
+        history = contents("history_of_a_change.vmhistory").splitlines(keepends=True)
+        for line in table("spoiled_lines"):
+            rows += 1
+            number, fault, cause, instead = (line.split(" ", 3) + [""])[:4]
+            at = len(history) if number == "end" else int(number) - 1
+            text = b"".join([*history[:at], *([instead.encode() + b"\n"] if instead else []), *history[at + 1:]])
+            answers.ask("certify", f"the line {number} {instead}", text,
+                        (NOT_CERTIFIED, f"line {fault}: {cause}\n".encode()))
     if wanted_name in (None, "watermarks"):
         for line in table("watermarks"):
             rows += 1

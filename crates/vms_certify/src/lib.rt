@@ -7,7 +7,6 @@ mod tool;
 
 pub use laws::made_histories_are_certified;
 pub use tool::tool_certify;
-pub use vms_certifying::CertifyStatus;
 pub use vms_history_checks::{BoundaryAt, CheckError, Counted, HistoryCheck};
 pub use vms_line_walks::LineWalk;
 pub use vms_phase_checks::EventCause;

@@ -8,7 +8,8 @@ use Rattle.std.proofs.lemmas.List.{take_all}
 use Rattle.vms_header.specs.Common.{Opening, missing}
 use Rattle.vms_text.specs.Common.{lines_of}
 use Rattle.vms_stream.specs.declared.statuses.Status.{Status}
-use Rattle.vms_stream.specs.declared.statuses.Status.TheVariants.{Done, Words, ReadFault, WriteFault, Memory, TooLong}
+use Rattle.vms_stream.specs.declared.statuses.Status.TheVariants.{Done, Words, ReadFault, WriteFault, Memory}
+use Rattle.vms_stream.specs.declared.statuses.Status.TheVariants.{NotCertified, TooLong}
 use Rattle.vms_stream.specs.declared.statuses.Status.TheVariants as statuses
 use Rattle.vms_stream.specs.Common.{AllUsed, AreMade, Behavior, Ends, Halts, IsOn, On, OutcomesLead, Oversteps}
 use Rattle.vms_stream.specs.Common.{OutcomesLeadToEnd, PhasedBehavior, SaysPhased, Short, UsedAtEnd, Way, halted}
@@ -18,13 +19,12 @@ use Rattle.vms_command.specs.Common.{status_at_end}
 use Rattle.vms_phase_checks.specs.declared.faults.EventCause.TheVariants.{Incomplete}
 use Rattle.vms_certifying.specs.declared.verdicts.Verdict.{Verdict}
 use Rattle.vms_certifying.specs.declared.verdicts.Verdict.TheVariants.{Refused, Taken, Whole}
-use Rattle.vms_certifying.specs.Certificates.{Certifies, HasHeader, HasHistory, SaysCertify}
+use Rattle.vms_certifying.specs.Certificates.{Certifies, HasHeader, HasHistory, RefusesHeader, RefusesHistory}
+use Rattle.vms_certifying.specs.Certificates.{SaysCertify}
 use Rattle.vms_certifying.specs.Certifying.{CertifyState, certifying, trace_above}
 use Rattle.vms_certifying.specs.Certifying.CertifyState.{Heading, Trace, Written}
 use Rattle.vms_certifying.specs.HistoryRules.{HistoryRules}
 use Rattle.vms_certifying.specs.JobStates.{shown_nothing}
-use Rattle.vms_certifying.specs.Statuses.{certify_status}
-use Rattle.vms_certifying.specs.Verdicts.{has_refused}
 use Rattle.vms_certifying.proofs.StoppedTexts.{StopsAs, stop}
 use Rattle.vms_certifying.proofs.StoppedTexts.StopsAs.{by_header, by_history, by_limits}
 use Rattle.vms_certifying.proofs.WalkedTexts.{Stood, walk}
@@ -51,25 +51,19 @@ module _ (rules : HistoryRules) (verdicts : List Verdict) (taken written : List 
 
     -- as it is said of the state and of the verdicts that are left there
     at-end : (t : CertifyState) (left : List Verdict) → Stood rules all verdicts t [] → UsedAtEnd phased t left
-        → shown_on phased shown_nothing (On t left) → has_refused verdicts ≡ has_refused left
-        → written ≡ last_of_way phased (On t left)
-        → SaysCertify rules (certify_status (way_ends phased (On t left)) (has_refused verdicts)) taken written at_end
-    at-end (Heading n stage) left (k, number, after, read) used shown same prints =
-        let none : has_refused verdicts ≡ false = same ∙ ap has_refused used in
-        subst (λ (b : Bool). SaysCertify rules (certify_status statuses.Header b) taken written at_end) (sym none)
-        (record {
-          lines = all;
-          judged = inr (ended, within, refl);
-          fault = record { line = n; cause = missing stage };
-          refused = sym read;
-          settled = inr ended;
-          written_is = prints;
-        })
-    at-end (Trace header first texts) [] stood used shown same prints = absurd shown
-    at-end (Trace header first texts) (verdict ∷ left) (has, none) (is, over) shown same prints =
-        let refused : has_refused verdicts ≡ true = same ∙ ap (λ (v : Verdict). has_refused (v ∷ left)) is in
-        subst (λ (b : Bool). SaysCertify rules (certify_status statuses.Header b) taken written at_end) (sym refused)
-        (record {
+        → shown_on phased shown_nothing (On t left) → written ≡ last_of_way phased (On t left)
+        → SaysCertify rules (way_ends phased (On t left)) taken written at_end
+    at-end (Heading n stage) left (k, number, after, read) used shown prints = record {
+      lines = all;
+      judged = inr (ended, within, refl);
+      fault = record { line = n; cause = missing stage };
+      refused = sym read;
+      settled = inr ended;
+      written_is = prints;
+    }
+    at-end (Trace header first texts) [] stood used shown prints = absurd shown
+    at-end (Trace header first texts) (verdict ∷ left) (has, none) (is, over) shown prints =
+        record {
           lines = all;
           judged = inr (ended, within, refl);
           line = first + length texts;
@@ -87,13 +81,12 @@ module _ (rules : HistoryRules) (verdicts : List Verdict) (taken written : List 
             }),
           );
           written_is = prints ∙ ap (λ (v : Verdict). phased.last (Trace header first texts) (Some v)) is;
-        })
-    at-end (Written header first texts lines) [] stood used shown same prints = absurd shown
-    at-end (Written header first texts lines) (Taken ∷ left) stood (is, over) shown same prints = absurd is
-    at-end (Written header first texts lines) (Refused cause ∷ left) (has, begun) ((is, never), over) shown same
+        }
+    at-end (Written header first texts lines) [] stood used shown prints = absurd shown
+    at-end (Written header first texts lines) (Taken ∷ left) stood (is, over) shown prints = absurd is
+    at-end (Written header first texts lines) (Refused cause ∷ left) (has, begun) ((is, never), over) shown
         prints =
-        subst (λ (b : Bool). SaysCertify rules (certify_status statuses.Header b) taken written at_end) (sym same)
-        (record {
+        record {
           lines = all;
           judged = inr (ended, within, refl);
           line = first + length texts + 1 + length lines;
@@ -113,9 +106,8 @@ module _ (rules : HistoryRules) (verdicts : List Verdict) (taken written : List 
             }),
           );
           written_is = prints;
-        })
-    at-end (Written header first texts lines) (Whole phases events ∷ left) (has, begun) (whole, over) shown same
-        prints =
+        }
+    at-end (Written header first texts lines) (Whole phases events ∷ left) (has, begun) (whole, over) shown prints =
         by (nat_lt 0 (trace_above header texts).refused) refl
       where
         certified : (refused : ℕ → Type 0) → refused (trace_above header texts).refused
@@ -140,20 +132,17 @@ module _ (rules : HistoryRules) (verdicts : List Verdict) (taken written : List 
         }
 
         by : (some : Bool) → nat_lt 0 (trace_above header texts).refused ≡ some
-            → SaysCertify rules (certify_status (status_at_end (trace_above header texts).refused)
-            (has_refused verdicts)) taken written at_end
+            → SaysCertify rules (status_at_end (trace_above header texts).refused) taken written at_end
         by true is =
-            subst (λ (b : Bool). SaysCertify rules (certify_status (if b then statuses.Refused else Done)
-            (has_refused verdicts)) taken written at_end) (sym is)
+            subst (λ (b : Bool). SaysCertify rules (if b then statuses.Refused else Done) taken written at_end) (sym is)
             (certified (λ refused. 1 ≤ refused) (grind (arith, nat_tests)))
         by false is =
-            subst (λ (b : Bool). SaysCertify rules (certify_status (if b then statuses.Refused else Done)
-            (has_refused verdicts)) taken written at_end) (sym is)
+            subst (λ (b : Bool). SaysCertify rules (if b then statuses.Refused else Done) taken written at_end) (sym is)
             (certified (λ refused. refused ≡ 0) (grind (arith, nat_tests)))
 
   says-end : (ending : Status) → Ends behavior (shown_on phased shown_nothing) ending taken written at_end
       → OutcomesLeadToEnd phased phased.start verdicts (lines_of taken)
-      → SaysCertify rules (certify_status ending (has_refused verdicts)) taken written at_end
+      → SaysCertify rules ending taken written at_end
   says-end ending ends leads =
       let lines = lines_of taken in
       let walked = walk rules lines verdicts (UsedAtEnd phased) (Heading 1 Opening) verdicts lines (stood-first lines)
@@ -166,42 +155,50 @@ module _ (rules : HistoryRules) (verdicts : List Verdict) (taken written : List 
       walked.quiet
       ∙ ap (λ (halt : Option Status). last_words halt (last_of_way phased way)) ends.none_halts
       ∙ ap (last_of_way phased) on.way_is in
-      subst (λ (status : Status). SaysCertify rules (certify_status status (has_refused verdicts)) taken written at_end)
+      subst (λ (status : Status). SaysCertify rules status taken written at_end)
       (sym (ap (way_ends phased) on.way_is) ∙ ends.ending_is)
       (at-end ends.ended ends.within on.state on.left on.stood on.asks
-      (subst (shown_on phased shown_nothing) on.way_is ends.shown) on.same prints)
+      (subst (shown_on phased shown_nothing) on.way_is ends.shown) prints)
 
-  -- a line stopped it
+  -- a line refuses the header
   says-halt : (halts : Halts behavior statuses.Header taken written at_end)
-      → OutcomesLead phased phased.start verdicts halts.lines
-      → SaysCertify rules (certify_status statuses.Header (has_refused verdicts)) taken written at_end
+      → OutcomesLead phased phased.start verdicts halts.lines → RefusesHeader taken written at_end
   says-halt halts leads =
       by (stop rules halts.lines verdicts (Heading 1 Opening) halts.lines statuses.Header verdicts
       (stood-first halts.lines) halts.halt_is leads)
     where
-      by : StopsAs rules halts.lines verdicts statuses.Header (printed behavior behavior.start halts.lines)
-          → SaysCertify rules (certify_status statuses.Header (has_refused verdicts)) taken written at_end
+      by : StopsAs rules halts.lines statuses.Header (printed behavior behavior.start halts.lines)
+          → RefusesHeader taken written at_end
       by (by_limits halt-is nothing) = absurd cc
-      by (by_header fault halt-is refused within prints none) =
-          subst (λ (b : Bool). SaysCertify rules (certify_status statuses.Header b) taken written at_end) (sym none)
-          (record {
-            lines = halts.lines;
-            judged = halts.judged;
-            fault = fault;
-            refused = refused;
-            settled = inl within;
-            written_is = halts.whole_output ∙ prints;
-          })
-      by (by_history n cause halt-is fault prints some) =
-          subst (λ (b : Bool). SaysCertify rules (certify_status statuses.Header b) taken written at_end) (sym some)
-          (record {
-            lines = halts.lines;
-            judged = halts.judged;
-            line = n;
-            cause = cause;
-            at_fault = inl fault;
-            written_is = halts.whole_output ∙ prints;
-          })
+      by (by_header fault halt-is refused within prints) = record {
+        lines = halts.lines;
+        judged = halts.judged;
+        fault = fault;
+        refused = refused;
+        settled = inl within;
+        written_is = halts.whole_output ∙ prints;
+      }
+      by (by_history n cause halt-is fault prints) = absurd cc
+
+  -- a line of the history is at fault
+  says-fault : (halts : Halts behavior NotCertified taken written at_end)
+      → OutcomesLead phased phased.start verdicts halts.lines → RefusesHistory rules taken written at_end
+  says-fault halts leads =
+      by (stop rules halts.lines verdicts (Heading 1 Opening) halts.lines NotCertified verdicts
+      (stood-first halts.lines) halts.halt_is leads)
+    where
+      by : StopsAs rules halts.lines NotCertified (printed behavior behavior.start halts.lines)
+          → RefusesHistory rules taken written at_end
+      by (by_limits halt-is nothing) = absurd cc
+      by (by_header fault halt-is refused within prints) = absurd cc
+      by (by_history n cause halt-is fault prints) = record {
+        lines = halts.lines;
+        judged = halts.judged;
+        line = n;
+        cause = cause;
+        at_fault = inl fault;
+        written_is = halts.whole_output ∙ prints;
+      }
 
   limited : (halts : Halts behavior TooLong taken written at_end)
       → OutcomesLead phased phased.start verdicts halts.lines → written ≡ []
@@ -209,22 +206,10 @@ module _ (rules : HistoryRules) (verdicts : List Verdict) (taken written : List 
       by (stop rules halts.lines verdicts (Heading 1 Opening) halts.lines TooLong verdicts
       (stood-first halts.lines) halts.halt_is leads)
     where
-      by : StopsAs rules halts.lines verdicts TooLong (printed behavior behavior.start halts.lines) → written ≡ []
+      by : StopsAs rules halts.lines TooLong (printed behavior behavior.start halts.lines) → written ≡ []
       by (by_limits halt-is nothing) = halts.whole_output ∙ nothing
-      by (by_header fault halt-is refused within prints none) = absurd cc
-      by (by_history n cause halt-is fault prints some) = absurd cc
-
-  -- a line at fault stops the job as one does that refuses the header
-  never-halts : (halts : Halts behavior statuses.NotCertified taken written at_end)
-      → OutcomesLead phased phased.start verdicts halts.lines → ⊥
-  never-halts halts leads =
-      by (stop rules halts.lines verdicts (Heading 1 Opening) halts.lines statuses.NotCertified verdicts
-      (stood-first halts.lines) halts.halt_is leads)
-    where
-      by : StopsAs rules halts.lines verdicts statuses.NotCertified (printed behavior behavior.start halts.lines) → ⊥
-      by (by_limits halt-is nothing) = absurd cc
-      by (by_header fault halt-is refused within prints none) = absurd cc
-      by (by_history n cause halt-is fault prints some) = absurd cc
+      by (by_header fault halt-is refused within prints) = absurd cc
+      by (by_history n cause halt-is fault prints) = absurd cc
 
   -- nothing is printed where nothing stops it
   quiet : (lines : List (List ℕ)) → halted behavior behavior.start lines ≡ None
@@ -233,7 +218,7 @@ module _ (rules : HistoryRules) (verdicts : List Verdict) (taken written : List 
       (walk rules lines verdicts AllUsed (Heading 1 Opening) verdicts lines (stood-first lines) none leads).quiet
 
   pub SaysCertify-phased : (status : Status) → SaysPhased phased shown_nothing verdicts status taken written at_end
-      → SaysCertify rules (certify_status status (has_refused verdicts)) taken written at_end
+      → SaysCertify rules status taken written at_end
   SaysCertify-phased Done says = says-end Done says.says says.made
   SaysCertify-phased Words says = absurd says.says
   SaysCertify-phased statuses.Header says = by says.says says.made
@@ -241,7 +226,7 @@ module _ (rules : HistoryRules) (verdicts : List Verdict) (taken written : List 
       by : (at : Halts behavior statuses.Header taken written at_end
           ⊎ Ends behavior (shown_on phased shown_nothing) statuses.Header taken written at_end)
           → AreMade phased shown_nothing verdicts taken written at_end statuses.Header at
-          → SaysCertify rules (certify_status statuses.Header (has_refused verdicts)) taken written at_end
+          → RefusesHeader taken written at_end
       by (inl halts) made = says-halt halts made.0
       by (inr ends) made = says-end statuses.Header ends made
   SaysCertify-phased statuses.Refused says = says-end statuses.Refused says.says says.made
@@ -263,10 +248,11 @@ module _ (rules : HistoryRules) (verdicts : List Verdict) (taken written : List 
           → written ≡ []
       by (inl halts) made = limited halts made.0
       by (inr oversteps) made = oversteps.whole_output ∙ quiet (lines_taken taken) oversteps.none_halts made.0
-  SaysCertify-phased statuses.NotCertified says = by says.says says.made
+  SaysCertify-phased NotCertified says = by says.says says.made
     where
-      by : (at : Halts behavior statuses.NotCertified taken written at_end
-          ⊎ Ends behavior (shown_on phased shown_nothing) statuses.NotCertified taken written at_end)
-          → AreMade phased shown_nothing verdicts taken written at_end statuses.NotCertified at → ⊥
-      by (inl halts) made = never-halts halts made.0
-      by (inr ends) made = says-end statuses.NotCertified ends made
+      by : (at : Halts behavior NotCertified taken written at_end
+          ⊎ Ends behavior (shown_on phased shown_nothing) NotCertified taken written at_end)
+          → AreMade phased shown_nothing verdicts taken written at_end NotCertified at
+          → RefusesHistory rules taken written at_end
+      by (inl halts) made = says-fault halts made.0
+      by (inr ends) made = says-end NotCertified ends made

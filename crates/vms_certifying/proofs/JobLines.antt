@@ -16,6 +16,7 @@ use Rattle.vms_stream.specs.Common.{TakesPhased, shown_on, with_outcomes}
 use Rattle.vms_stream.proofs.Common.{Closes-given, ClosesPhased-also, ClosesPhased-given, Grows-nil, TakesLines-given}
 use Rattle.vms_stream.proofs.Common.{TakesLines-given_exceeding, TakesLines-given_refused, TakesPhased-also}
 use Rattle.vms_stream.proofs.Common.{TakesPhased-given}
+use Rattle.vms_stream.proofs.GivenOutcomes.{TakesLines-given_answered}
 use Rattle.vms_command.specs.Common.{exceeds, exceeds_limit, halted_at, header_line, most_lines, refuses}
 use Rattle.vms_phase_checks.specs.declared.faults.EventCause.{EventCause}
 use Rattle.vms_phase_checks.specs.declared.faults.EventCause.TheVariants.{Incomplete}
@@ -431,9 +432,9 @@ module _ {J : Type 0} (rules : HistoryRules) (Gathers : Header → List Segment 
           → ((segments : List Segment) (lines : List (List ℕ)) → Accepts part.header segments lines part.history
           → rules.IsFault part.header segments lines line cause)
           → TakesPhased {E = E} phased (InWritten Accepts n part) (InWritten Accepts (suc n) part') (made_by old)
-          (made_by new) line (Ok (Some statuses.Header)) out out'
+          (made_by new) line (Ok (Some statuses.NotCertified)) out out'
       written-refused cause added prints fault =
-          TakesPhased-given phased (made_by old) (made_by new) line out out' (Ok (Some statuses.Header))
+          TakesPhased-given phased (made_by old) (made_by new) line out out' (Ok (Some statuses.NotCertified))
           (InWritten Accepts n part) (InWritten Accepts (suc n) part') (Some (Refused cause)) (ap Some added)
           (may-judge (Refused cause)
           (λ first texts lines keeps. fault (segments_in part.header first texts) lines keeps.accepts))
@@ -442,12 +443,13 @@ module _ {J : Type 0} (rules : HistoryRules) (Gathers : Header → List Segment 
           let texts = here.texts in
           let lines = here.lines in
           subst (λ (x : CertifyState). TakesLines (with_outcomes phased (Refused cause ∷ []))
-          (StandsOn (InWritten Accepts (suc n) part')) (On x (Refused cause ∷ [])) (line ∷ []) (Some statuses.Header)
+          (StandsOn (InWritten Accepts (suc n) part')) (On x (Refused cause ∷ [])) (line ∷ []) (Some statuses.NotCertified)
           out out') (sym here.state_is)
-          (TakesLines-given_refused phased (InWritten Accepts (suc n) part') (Written part.header first texts lines)
+          (TakesLines-given_answered phased (InWritten Accepts (suc n) part') (Written part.header first texts lines)
           line out out' (Some (Refused cause))
           (judged-within (first + length texts + 1 + length lines) (number-within state here))
-          (within_limit (first + length texts + 1 + length lines) (Some statuses.Header) (number-within state here))
+          statuses.NotCertified (λ text later. refl)
+          (within_limit (first + length texts + 1 + length lines) (Some statuses.NotCertified) (number-within state here))
           (prints ∙ ap (λ (k : ℕ). out ++ fault_line k cause) here.number)))
 
       -- memory ran out, and no verdict was given
@@ -513,10 +515,10 @@ module _ {J : Type 0} (rules : HistoryRules) (Gathers : Header → List Segment 
     -- in a trace, without a history
     pub trace-ends : {E : Type 0} (part : TracePart J) (old new : Verdicts) → job.work ≡ works.Trace part
         → verdicts_of new ≡ verdicts_of old ++ Refused Incomplete ∷ [] → out' ≡ out ++ fault_line job.line Incomplete
-        → ClosesPhased {E = E} phased (stands job) shown_nothing (made_by old) (made_by new) (Ok statuses.Header) out
+        → ClosesPhased {E = E} phased (stands job) shown_nothing (made_by old) (made_by new) (Ok statuses.NotCertified) out
         out'
     trace-ends part old new is added prints =
-        ClosesPhased-given phased shown_nothing (made_by old) (made_by new) out out' (Ok statuses.Header) (stands job)
+        ClosesPhased-given phased shown_nothing (made_by old) (made_by new) out out' (Ok statuses.NotCertified) (stands job)
         (Some (Refused Incomplete)) (ap Some added)
         (λ s here.
         let at = trace-at_work job.line job.work part s is here.work in (
@@ -526,9 +528,9 @@ module _ {J : Type 0} (rules : HistoryRules) (Gathers : Header → List Segment 
         (λ s here.
         let at = trace-at_work job.line job.work part s is here.work in
         subst (λ (x : CertifyState). Closes (with_outcomes phased (Refused Incomplete ∷ []))
-        (shown_on phased shown_nothing) (On x (Refused Incomplete ∷ [])) statuses.Header out out') (sym at.state_is)
+        (shown_on phased shown_nothing) (On x (Refused Incomplete ∷ [])) statuses.NotCertified out out') (sym at.state_is)
         (Closes-given phased shown_nothing (Trace part.header at.first at.texts) (Some (Refused Incomplete))
-        statuses.Header out out' refl refl
+        statuses.NotCertified out out' refl refl
         (prints ∙ ap (λ (k : ℕ). out ++ fault_line k Incomplete) at.number) tt))
 
     -- nothing is said where no memory is left

@@ -6,6 +6,5 @@ mod WalkedTexts
 mod StoppedTexts
 mod CertifiedTexts
 mod OneHistory
-mod VerdictLists
 mod HeadLines
 mod CommandAnswers

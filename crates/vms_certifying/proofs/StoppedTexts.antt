@@ -23,18 +23,16 @@ use Rattle.vms_certifying.specs.Certifying.CertifyState.{Heading, Trace, Written
 use Rattle.vms_certifying.specs.HistoryLines.{is_history_line}
 use Rattle.vms_certifying.specs.HistoryRules.{HistoryRules}
 use Rattle.vms_certifying.specs.Printing.{fault_line}
-use Rattle.vms_certifying.specs.Verdicts.{has_refused}
 use Rattle.vms_certifying.proofs.WalkedTexts.{Stood, by_limit, drop-within, first-some, later-some, stood-head}
 use Rattle.vms_certifying.proofs.WalkedTexts.{stood-trace, stood-written}
 
 -- a limit was exceeded, the header is refused, or a line of the history is at fault
-pub data StopsAs (rules : HistoryRules) (all : List (List ℕ)) (verdicts : List Verdict) (halt : Status)
-    (out : List ℕ) : Type 0 where
-  by_limits : halt ≡ TooLong → out ≡ [] → StopsAs rules all verdicts halt out
+pub data StopsAs (rules : HistoryRules) (all : List (List ℕ)) (halt : Status) (out : List ℕ) : Type 0 where
+  by_limits : halt ≡ TooLong → out ≡ [] → StopsAs rules all halt out
   by_header : (fault : Fault) → halt ≡ statuses.Header → read_header all ≡ Err fault → fault.line ≤ length all
-      → out ≡ header_line fault → has_refused verdicts ≡ false → StopsAs rules all verdicts halt out
-  by_history : (n : ℕ) (cause : EventCause) → halt ≡ statuses.Header → IsFirstFault rules all n cause
-      → out ≡ fault_line n cause → has_refused verdicts ≡ true → StopsAs rules all verdicts halt out
+      → out ≡ header_line fault → StopsAs rules all halt out
+  by_history : (n : ℕ) (cause : EventCause) → halt ≡ statuses.NotCertified → IsFirstFault rules all n cause
+      → out ≡ fault_line n cause → StopsAs rules all halt out
 
 -- what is printed from a line on
 printed-past : (halt : Option Status) (line later : List ℕ) → halt ≡ None → line ≡ []
@@ -45,6 +43,10 @@ printed-past (Some halt) line later none nothing = absurd cc
 printed-refused : (halt : Option Status) (line later : List ℕ) → halt ≡ Some statuses.Header
     → printed_from halt line later ≡ line
 printed-refused halt line later is = ap (λ (h : Option Status). printed_from h line later) is
+
+printed-faulty : (halt : Option Status) (line later : List ℕ) → halt ≡ Some statuses.NotCertified
+    → printed_from halt line later ≡ line
+printed-faulty halt line later is = ap (λ (h : Option Status). printed_from h line later) is
 
 printed-limited : (halt : Option Status) (line later : List ℕ) → halt ≡ Some TooLong
     → printed_from halt line later ≡ []
@@ -67,31 +69,28 @@ module _ (rules : HistoryRules) (all : List (List ℕ)) (given : List Verdict) w
     halts : halt_at phased s line (supply (judges_line s) verdicts) ≡ halted_line s line verdict
     halts = ap (halt_at phased s line) got
 
-    stops-limit : halted_line s line verdict ≡ Some TooLong → StopsAs rules all verdicts halt out
+    stops-limit : halted_line s line verdict ≡ Some TooLong → StopsAs rules all halt out
     stops-limit is =
         by_limits (sym (first-some _ _ halt TooLong (halts ∙ is) stops)) (printed-limited _ _ _ (halts ∙ is))
 
     stops-header : (fault : Fault) → halted_line s line verdict ≡ Some statuses.Header → read_header all ≡ Err fault
-        → fault.line ≤ length all → printed_line s line verdict ≡ header_line fault → has_refused verdicts ≡ false
-        → StopsAs rules all verdicts halt out
-    stops-header fault is refused within prints none =
+        → fault.line ≤ length all → printed_line s line verdict ≡ header_line fault → StopsAs rules all halt out
+    stops-header fault is refused within prints =
         by_header fault (sym (first-some _ _ halt statuses.Header (halts ∙ is) stops)) refused within
-        (printed-refused _ _ _ (halts ∙ is) ∙ ap (printed_at phased s line) got ∙ prints) none
+        (printed-refused _ _ _ (halts ∙ is) ∙ ap (printed_at phased s line) got ∙ prints)
 
-    stops-history : (n : ℕ) (cause : EventCause) → halted_line s line verdict ≡ Some statuses.Header
-        → IsFirstFault rules all n cause → printed_line s line verdict ≡ fault_line n cause
-        → has_refused verdicts ≡ true → StopsAs rules all verdicts halt out
-    stops-history n cause is fault prints some =
-        by_history n cause (sym (first-some _ _ halt statuses.Header (halts ∙ is) stops)) fault
-        (printed-refused _ _ _ (halts ∙ is) ∙ ap (printed_at phased s line) got ∙ prints) some
+    stops-history : (n : ℕ) (cause : EventCause) → halted_line s line verdict ≡ Some statuses.NotCertified
+        → IsFirstFault rules all n cause → printed_line s line verdict ≡ fault_line n cause → StopsAs rules all halt out
+    stops-history n cause is fault prints =
+        by_history n cause (sym (first-some _ _ halt statuses.NotCertified (halts ∙ is) stops)) fault
+        (printed-faulty _ _ _ (halts ∙ is) ∙ ap (printed_at phased s line) got ∙ prints)
 
     -- a later line stops the command
     stops-later : halted_line s line verdict ≡ None → printed_line s line verdict ≡ []
-        → has_refused verdicts ≡ has_refused left
         → (halted behavior (On (after_line s line) left) lines ≡ Some halt
-        → StopsAs rules all left halt (printed behavior (On (after_line s line) left) lines))
-        → StopsAs rules all verdicts halt out
-    stops-later none nothing same later =
+        → StopsAs rules all halt (printed behavior (On (after_line s line) left) lines))
+        → StopsAs rules all halt out
+    stops-later none nothing later =
         let next = ap (way_after phased s line) got in
         let at = later (sym (ap (λ (way : Way CertifyState Verdict). halted behavior way lines) next)
         ∙ later-some _ _ halt (halts ∙ none) stops) in
@@ -101,19 +100,18 @@ module _ (rules : HistoryRules) (all : List (List ℕ)) (given : List Verdict) w
         ∙ ap (λ (way : Way CertifyState Verdict). printed behavior way lines) next) at
       where
         by : out ≡ printed behavior (On (after_line s line) left) lines
-            → StopsAs rules all left halt (printed behavior (On (after_line s line) left) lines)
-            → StopsAs rules all verdicts halt out
+            → StopsAs rules all halt (printed behavior (On (after_line s line) left) lines)
+            → StopsAs rules all halt out
         by is (by_limits halt-is nothing) = by_limits halt-is (is ∙ nothing)
-        by is (by_header fault halt-is refused within prints none) =
-            by_header fault halt-is refused within (is ∙ prints) (same ∙ none)
-        by is (by_history n cause halt-is fault prints some) =
-            by_history n cause halt-is fault (is ∙ prints) (same ∙ some)
+        by is (by_header fault halt-is refused within prints) =
+            by_header fault halt-is refused within (is ∙ prints)
+        by is (by_history n cause halt-is fault prints) = by_history n cause halt-is fault (is ∙ prints)
 
   -- what is to be shown of lines from a state on
   abbrev Stops : CertifyState → List (List ℕ) → Status → Type 0
   Stops s lines halt = (left : List Verdict) → Stood rules all given s lines
       → halted behavior (On s left) lines ≡ Some halt → OutcomesLead phased s left lines
-      → StopsAs rules all left halt (printed behavior (On s left) lines)
+      → StopsAs rules all halt (printed behavior (On s left) lines)
 
   -- a line of a header
   module _ (n : ℕ) (stage : Stage) (line : List ℕ) (lines : List (List ℕ)) (halt : Status)
@@ -123,11 +121,11 @@ module _ (rules : HistoryRules) (all : List (List ℕ)) (given : List Verdict) w
         → halted behavior (On (Heading n stage) verdicts) (line ∷ lines) ≡ Some halt
         → OutcomesLead phased (Heading n stage) verdicts (line ∷ lines)
         → halted_line (Heading n stage) line None ≡ refuses (head_line stage line)
-        → StopsAs rules all verdicts halt (printed behavior (On (Heading n stage) verdicts) (line ∷ lines))
+        → StopsAs rules all halt (printed behavior (On (Heading n stage) verdicts) (line ∷ lines))
     head-stops verdicts (Ok step) is stood stops leads same =
         let s : CertifyState = Heading n stage in
         let none : halted_line s line None ≡ None = same ∙ ap refuses is in
-        stops-later s line lines verdicts verdicts None refl halt stops none (ap (printed_head n) is) refl
+        stops-later s line lines verdicts verdicts None refl halt stops none (ap (printed_head n) is)
         (λ later. next verdicts
         (subst (λ (r : Result HeadStep HeaderCause). Stood rules all given (after_head n stage r) lines) (sym is)
         (stood-head rules all given n stage line lines (Ok step) stood is refl)) later
@@ -137,14 +135,11 @@ module _ (rules : HistoryRules) (all : List (List ℕ)) (given : List Verdict) w
         let s : CertifyState = Heading n stage in
         let halts : halted_line s line None ≡ Some statuses.Header = same ∙ ap refuses is in
         let fault : Fault = record { line = n; cause = cause } in
-        let used : verdicts ≡ [] = subst (λ (h : Option Status). none_after h verdicts
-        (OutcomesLead phased (after_line s line) verdicts lines)) halts leads in
         let read : header_from n stage (line ∷ lines) ≡ Err fault =
         ap (λ (r : Result HeadStep HeaderCause). on_step n r (λ next. header_from (suc n) next lines)) is in
         let within = drop-within stood.0 all line lines stood.2 in
         stops-header s line lines verdicts verdicts None refl halt stops fault halts (sym stood.3 ∙ read)
         (omega (arith, stood.1, within)) (ap (printed_head n) is)
-        (ap has_refused used)
 
   -- a line of a trace
   module _ (header : Header) (first : ℕ) (texts : List (List ℕ)) (line : List ℕ) (lines : List (List ℕ))
@@ -159,10 +154,10 @@ module _ (rules : HistoryRules) (all : List (List ℕ)) (given : List Verdict) w
     above = trace_above header texts
 
     abbrev TraceGoal : Type 0
-    TraceGoal = StopsAs rules all verdicts halt (printed behavior (On trace-state verdicts) (line ∷ lines))
+    TraceGoal = StopsAs rules all halt (printed behavior (On trace-state verdicts) (line ∷ lines))
 
     trace-on : halted_line trace-state line None ≡ None → TraceGoal
-    trace-on none = stops-later trace-state line lines verdicts verdicts None refl halt stops none refl refl
+    trace-on none = stops-later trace-state line lines verdicts verdicts None refl halt stops none refl
         (λ later. next verdicts
         (stood-trace rules all given header first texts line lines (is_history_line line) refl stood) later
         (subst (λ (h : Option Status). none_after h verdicts (OutcomesLead phased (after_line trace-state line) verdicts
@@ -196,7 +191,7 @@ module _ (rules : HistoryRules) (all : List (List ℕ)) (given : List Verdict) w
     number = first + length texts + 1 + length written
 
     abbrev WrittenGoal : List Verdict → Type 0
-    WrittenGoal left = StopsAs rules all left halt (printed behavior (On here left) (line ∷ lines))
+    WrittenGoal left = StopsAs rules all halt (printed behavior (On here left) (line ∷ lines))
 
     beyond-stops : (verdicts : List Verdict) → halted behavior (On here verdicts) (line ∷ lines) ≡ Some halt
         → nat_lt most_lines number ≡ true → WrittenGoal verdicts
@@ -222,7 +217,7 @@ module _ (rules : HistoryRules) (all : List (List ℕ)) (given : List Verdict) w
         (OutcomesLead phased (after_line here line) left lines))) within leads in
         let none : halted_line here line (Some Taken) ≡ None =
         ap (λ (b : Bool). if b then Some TooLong else None) within in
-        stops-later here line lines (Taken ∷ left) left (Some Taken) got halt stops none refl refl
+        stops-later here line lines (Taken ∷ left) left (Some Taken) got halt stops none refl
         (λ later. next left (stood-written rules all given header first texts written line lines led.0 stood) later
         (subst (λ (h : Option Status). none_after h left (OutcomesLead phased (after_line here line) left lines)) none
         led.1))
@@ -233,7 +228,7 @@ module _ (rules : HistoryRules) (all : List (List ℕ)) (given : List Verdict) w
         (λ given left. none_after (halted_line here line given) left
         (OutcomesLead phased (after_line here line) left lines))) within leads in
         stops-history here line lines (Refused cause ∷ left) left (Some (Refused cause)) got halt stops number cause
-        (ap (λ (b : Bool). if b then Some TooLong else Some statuses.Header) within)
+        (ap (λ (b : Bool). if b then Some TooLong else Some statuses.NotCertified) within)
         (record {
           header = header;
           first = first;
@@ -245,7 +240,7 @@ module _ (rules : HistoryRules) (all : List (List ℕ)) (given : List Verdict) w
           begun = stood.1;
           fault = led.0;
           number = refl;
-        }) refl refl
+        }) refl
     within-stops (Whole phases events ∷ left) stood within stops leads =
         absurd (subst (λ (b : Bool). leads_on (not b) (Whole phases events ∷ left) (phased.Allows here line)
         (λ given left. none_after (halted_line here line given) left

@@ -21,7 +21,6 @@ use Rattle.vms_certifying.specs.Certifying.{printed_head, printed_line, segments
 use Rattle.vms_certifying.specs.Certifying.CertifyState.{Heading, Trace, Written}
 use Rattle.vms_certifying.specs.HistoryLines.{is_history_line}
 use Rattle.vms_certifying.specs.HistoryRules.{HistoryRules}
-use Rattle.vms_certifying.specs.Verdicts.{has_refused}
 
 -- what stands after an element
 drop-after : (k : ℕ) (all : List (List ℕ)) (line : List ℕ) (lines : List (List ℕ)) → drop k all ≡ line ∷ lines
@@ -143,31 +142,28 @@ module _ (rules : HistoryRules) (all : List (List ℕ)) (given : List Verdict) w
   short-quiet (line ∷ lines) = short-quiet lines
 
   -- where the way leads: what is asked of the verdicts that are left holds
-  pub record WalkedOn (asked : CertifyState → List Verdict → Type 0) (way : Way CertifyState Verdict)
-      (verdicts : List Verdict) : Type 0 where
+  pub record WalkedOn (asked : CertifyState → List Verdict → Type 0) (way : Way CertifyState Verdict) : Type 0 where
     pub state : CertifyState
     pub left : List Verdict
     pub way_is : way ≡ On state left
     pub stood : Stood state []
     pub asks : asked state left
-    pub same : has_refused verdicts ≡ has_refused left
 
-  pub record Walked (asked : CertifyState → List Verdict → Type 0) (way : Way CertifyState Verdict)
-      (verdicts : List Verdict) (out : List ℕ) : Type 0 where
+  pub record Walked (asked : CertifyState → List Verdict → Type 0) (way : Way CertifyState Verdict) (out : List ℕ)
+      : Type 0 where
     pub quiet : out ≡ []
-    pub on : IsOn way → WalkedOn asked way verdicts
+    pub on : IsOn way → WalkedOn asked way
 
   module _ (asked : CertifyState → List Verdict → Type 0) where
     -- one line further
     further : (s : CertifyState) (line : List ℕ) (lines : List (List ℕ)) (verdicts left : List Verdict)
         (verdict : Option Verdict) → supply (judges_line s) verdicts ≡ Gives verdict left
-        → has_refused verdicts ≡ has_refused left → halted_line s line verdict ≡ None
-        → printed_line s line verdict ≡ []
-        → Walked asked (state_after behavior (On (after_line s line) left) lines) left
+        → halted_line s line verdict ≡ None → printed_line s line verdict ≡ []
+        → Walked asked (state_after behavior (On (after_line s line) left) lines)
         (printed behavior (On (after_line s line) left) lines)
-        → Walked asked (state_after behavior (On s verdicts) (line ∷ lines)) verdicts
+        → Walked asked (state_after behavior (On s verdicts) (line ∷ lines))
         (printed behavior (On s verdicts) (line ∷ lines))
-    further s line lines verdicts left verdict got same halts nothing walked =
+    further s line lines verdicts left verdict got halts nothing walked =
         let next = ap (way_after phased s line) got in
         let way : state_after behavior (On s verdicts) (line ∷ lines)
         ≡ state_after behavior (On (after_line s line) left) lines =
@@ -185,7 +181,6 @@ module _ (rules : HistoryRules) (all : List (List ℕ)) (given : List Verdict) w
                 way_is = way ∙ on.way_is;
                 stood = on.stood;
                 asks = on.asks;
-                same = same ∙ on.same;
               };
         }
 
@@ -216,7 +211,7 @@ module _ (rules : HistoryRules) (all : List (List ℕ)) (given : List Verdict) w
       later = Written header first texts (written ++ line ∷ [])
 
       abbrev Goes-on : List Verdict → Type 0
-      Goes-on left = Walked asked (state_after behavior (On here left) (line ∷ lines)) left
+      Goes-on left = Walked asked (state_after behavior (On here left) (line ∷ lines))
           (printed behavior (On here left) (line ∷ lines))
 
       beyond-none : (verdicts : List Verdict) → halted behavior (On here verdicts) (line ∷ lines) ≡ None
@@ -230,7 +225,7 @@ module _ (rules : HistoryRules) (all : List (List ℕ)) (given : List Verdict) w
 
       within-none : ((left : List Verdict) → Stood later lines → halted behavior (On later left) lines ≡ None
           → OutcomesLeadThrough phased asked later left lines
-          → Walked asked (state_after behavior (On later left) lines) left (printed behavior (On later left) lines))
+          → Walked asked (state_after behavior (On later left) lines) (printed behavior (On later left) lines))
           → Stood here (line ∷ lines) → (verdicts : List Verdict) → nat_lt most_lines number ≡ false
           → halted behavior (On here verdicts) (line ∷ lines) ≡ None
           → OutcomesLeadThrough phased asked here verdicts (line ∷ lines) → Goes-on verdicts
@@ -254,7 +249,7 @@ module _ (rules : HistoryRules) (all : List (List ℕ)) (given : List Verdict) w
           (λ given left. none_after (halted_line here line given) left
           (OutcomesLeadThrough phased asked later left lines))) within leads in
           let halts = halts-none here line lines (Taken ∷ left) left (Some Taken) got none in
-          further here line lines (Taken ∷ left) left (Some Taken) got refl halts refl
+          further here line lines (Taken ∷ left) left (Some Taken) got halts refl
           (next left (stood-written header first texts written line lines led.0 stood)
           (rest-none here line lines (Taken ∷ left) left (Some Taken) got none)
           (subst (λ (h : Option Status). none_after h left (OutcomesLeadThrough phased asked later left lines)) halts
@@ -263,8 +258,8 @@ module _ (rules : HistoryRules) (all : List (List ℕ)) (given : List Verdict) w
           let got : supply (judges_line here) (Refused cause ∷ left) ≡ Gives (Some (Refused cause)) left =
           ap (λ (b : Bool). supply (not b) (Refused cause ∷ left)) within in
           let halts = halts-none here line lines (Refused cause ∷ left) left (Some (Refused cause)) got none in
-          let clash : Some statuses.Header ≡ None =
-          sym (ap (λ (b : Bool). if b then Some TooLong else Some statuses.Header) within) ∙ halts in
+          let clash : Some statuses.NotCertified ≡ None =
+          sym (ap (λ (b : Bool). if b then Some TooLong else Some statuses.NotCertified) within) ∙ halts in
           absurd cc
       within-none next stood (Whole phases events ∷ left) within none leads =
           absurd (subst (λ (b : Bool). leads_on (not b) (Whole phases events ∷ left) (phased.Allows here line)
@@ -280,7 +275,7 @@ module _ (rules : HistoryRules) (all : List (List ℕ)) (given : List Verdict) w
 
     pub walk : (s : CertifyState) (verdicts : List Verdict) (lines : List (List ℕ)) → Stood s lines
         → halted behavior (On s verdicts) lines ≡ None → OutcomesLeadThrough phased asked s verdicts lines
-        → Walked asked (state_after behavior (On s verdicts) lines) verdicts (printed behavior (On s verdicts) lines)
+        → Walked asked (state_after behavior (On s verdicts) lines) (printed behavior (On s verdicts) lines)
     walk s verdicts [] stood none leads = record {
       quiet = refl;
       on = λ is_on. record {
@@ -289,7 +284,6 @@ module _ (rules : HistoryRules) (all : List (List ℕ)) (given : List Verdict) w
         way_is = refl;
         stood = stood;
         asks = leads;
-        same = refl;
       };
     }
     walk (Heading n stage) verdicts (line ∷ lines) stood none leads =
@@ -300,7 +294,7 @@ module _ (rules : HistoryRules) (all : List (List ℕ)) (given : List Verdict) w
         (sym (ap (λ (b : Bool). if b then Some TooLong else refuses (head_line stage line)) beyond) ∙ halts)))
         (λ within. sym (ap (λ (b : Bool). if b then Some TooLong else refuses (head_line stage line)) within) ∙ halts)
         in
-        further s line lines verdicts verdicts None refl refl halts (none-printed n (head_line stage line) read)
+        further s line lines verdicts verdicts None refl halts (none-printed n (head_line stage line) read)
         (walk (after_line s line) verdicts lines (stood-head n stage line lines (head_line stage line) stood refl read)
         (rest-none s line lines verdicts verdicts None refl none)
         (subst (λ (h : Option Status). none_after h verdicts (OutcomesLeadThrough phased asked (after_line s line)
@@ -308,7 +302,7 @@ module _ (rules : HistoryRules) (all : List (List ℕ)) (given : List Verdict) w
     walk (Trace header first texts) verdicts (line ∷ lines) stood none leads =
         let s : CertifyState = Trace header first texts in
         let halts = halts-none s line lines verdicts verdicts None refl none in
-        further s line lines verdicts verdicts None refl refl halts refl
+        further s line lines verdicts verdicts None refl halts refl
         (walk (after_line s line) verdicts lines
         (stood-trace header first texts line lines (is_history_line line) refl stood)
         (rest-none s line lines verdicts verdicts None refl none)

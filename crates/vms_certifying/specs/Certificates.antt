@@ -3,15 +3,14 @@ use Rattle.std.specs.Prelude.{◌≡◌, ◌⊎◌, ◌≤◌, ◌+◌, ℕ, suc
 use Rattle.vms_base.specs.declared.headers.Header.{Header}
 use Rattle.vms_header.specs.Common.{Fault, read_header}
 use Rattle.vms_stream.specs.Common.{AreLinesTaken, most_bytes}
+use Rattle.vms_stream.specs.declared.statuses.Status.{Status}
 use Rattle.vms_stream.specs.declared.statuses.Status.TheVariants.{Done, Words, Refused, ReadFault, WriteFault, Memory}
-use Rattle.vms_stream.specs.declared.statuses.Status.TheVariants.{TooLong}
+use Rattle.vms_stream.specs.declared.statuses.Status.TheVariants.{NotCertified, TooLong}
 use Rattle.vms_stream.specs.declared.statuses.Status.TheVariants as statuses
 use Rattle.vms_text.specs.Common.{lines_of}
 use Rattle.vms_command.specs.Common.{header_line}
 use Rattle.vms_phase_checks.specs.declared.faults.EventCause.{EventCause}
 use Rattle.vms_phase_checks.specs.declared.faults.EventCause.TheVariants.{Incomplete}
-use Rattle.vms_certifying.specs.declared.statuses.CertifyStatus.{CertifyStatus}
-use Rattle.vms_certifying.specs.declared.statuses.CertifyStatus.TheVariants.{Ended, NotCertified}
 use Rattle.vms_certifying.specs.Certifying.{segments_in, trace_above}
 use Rattle.vms_certifying.specs.HistoryLines.{is_history_line}
 use Rattle.vms_certifying.specs.HistoryRules.{HistoryRules}
@@ -123,14 +122,13 @@ pub record RefusesHistory (rules : HistoryRules) (taken written : List ℕ) (at_
   pub written_is : written ≡ fault_line line cause
 
 -- what a status says of what was taken and written
-abbrev pub SaysCertify : HistoryRules → CertifyStatus → List ℕ → List ℕ → Type 0 → Type 0
-SaysCertify rules (Ended Done) taken written at_end = Certifies rules taken written at_end (λ refused. refused ≡ 0)
-SaysCertify rules (Ended Words) taken written at_end = ⊥
-SaysCertify rules (Ended statuses.Header) taken written at_end = RefusesHeader taken written at_end
-SaysCertify rules (Ended Refused) taken written at_end = Certifies rules taken written at_end (λ refused. 1 ≤ refused)
-SaysCertify rules (Ended ReadFault) taken written at_end = written ≡ []
-SaysCertify rules (Ended WriteFault) taken written at_end = Unit {0}
-SaysCertify rules (Ended Memory) taken written at_end = Unit {0}
-SaysCertify rules (Ended TooLong) taken written at_end = written ≡ []
-SaysCertify rules (Ended statuses.NotCertified) taken written at_end = ⊥
+abbrev pub SaysCertify : HistoryRules → Status → List ℕ → List ℕ → Type 0 → Type 0
+SaysCertify rules Done taken written at_end = Certifies rules taken written at_end (λ refused. refused ≡ 0)
+SaysCertify rules Words taken written at_end = ⊥
+SaysCertify rules statuses.Header taken written at_end = RefusesHeader taken written at_end
+SaysCertify rules Refused taken written at_end = Certifies rules taken written at_end (λ refused. 1 ≤ refused)
+SaysCertify rules ReadFault taken written at_end = written ≡ []
+SaysCertify rules WriteFault taken written at_end = Unit {0}
+SaysCertify rules Memory taken written at_end = Unit {0}
+SaysCertify rules TooLong taken written at_end = written ≡ []
 SaysCertify rules NotCertified taken written at_end = RefusesHistory rules taken written at_end

@@ -101,7 +101,7 @@ printed_line state line given = verdict_text (number_of state) given
 
 -- why the command stops at a line: the line refuses the header, is at fault in the history, or exceeds a limit
 abbrev pub refused_by : Option Verdict → Option Status
-refused_by (Some (Refused cause)) = Some statuses.Header
+refused_by (Some (Refused cause)) = Some statuses.NotCertified
 refused_by _ = None
 
 abbrev pub halted_in_trace : LinesAbove → Header → List ℕ → Option Status
@@ -122,11 +122,11 @@ printed_end state given = verdict_text (number_of state) given
 
 abbrev pub ended_by : ℕ → Option Verdict → Status
 ended_by refused (Some (Whole phases events)) = status_at_end refused
-ended_by refused _ = statuses.Header
+ended_by refused _ = statuses.NotCertified
 
 abbrev pub ends_as : CertifyState → Option Verdict → Status
 ends_as (Heading n stage) given = statuses.Header
-ends_as (Trace header first texts) given = statuses.Header
+ends_as (Trace header first texts) given = statuses.NotCertified
 ends_as (Written header first texts lines) given = ended_by (trace_above header texts).refused given
 
 -- with these statuses a line may stop a command, and a command may end

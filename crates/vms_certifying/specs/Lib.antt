@@ -3,7 +3,6 @@ pub mod HistoryRules
 pub mod Judging
 pub mod Printing
 pub mod Verdicts
-pub mod Statuses
 pub mod Certifying
 pub mod TraceParts
 pub mod WrittenParts

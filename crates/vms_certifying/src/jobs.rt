@@ -151,7 +151,7 @@ impl<J: HistoryJudge> Job for CertifyJob<J> {
             Work::Trace(_) => {
                 write_fault_line(out, self.line, EventCause::Incomplete)?;
                 verdicts.add(Verdict::Refused(EventCause::Incomplete))?;
-                Ok(Status::Header)
+                Ok(Status::NotCertified)
             }
             Work::Written(part) => part.end(verdicts, self.line, out),
             Work::Stopped => Ok(Status::Done),

@@ -22,7 +22,7 @@ pub(crate) struct Verdicts {
 
 impl Verdicts {
     ghost use Rattle.std.specs.Prelude.{◌≡◌, ◌∷◌, [], ◌++◌, MatchResult};
-    ghost use Rattle.vms_certifying.specs.Verdicts.{has_refused, verdicts_of};
+    ghost use Rattle.vms_certifying.specs.Verdicts.{verdicts_of};
 
     /// Before the first line.
     pub(crate) fn none() -> Verdicts
@@ -48,28 +48,5 @@ impl Verdicts {
             _ => self.last = Some(verdict),
         }
         Ok(())
-    }
-
-    /// Whether a line is at fault.
-    pub(crate) fn has_refused(&self) -> bool
-        ensures { result ≡ has_refused (verdicts_of self.now) }
-    {
-        match self.last {
-            Some(verdict) => is_refused(verdict),
-            None => false,
-        }
-    }
-}
-
-ghost use Rattle.std.specs.Prelude.{◌≡◌, ◌∷◌, []};
-ghost use Rattle.vms_certifying.specs.Verdicts.{has_refused};
-
-fn is_refused(verdict: Verdict) -> bool
-    ensures { result ≡ has_refused (verdict ∷ []) }
-{
-    match verdict {
-        Verdict::Refused(_) => true,
-        Verdict::Taken => false,
-        Verdict::Whole(_, _) => false,
     }
 }

@@ -45,7 +45,7 @@ impl<J: HistoryJudge> WrittenPart<J> {
             Err(JudgeError::Fault(cause)) => {
                 write_fault_line(out, number, cause)?;
                 verdicts.add(Verdict::Refused(cause))?;
-                Ok(Some(Status::Header))
+                Ok(Some(Status::NotCertified))
             }
             Err(JudgeError::Memory) => Err(Memory),
         }
@@ -71,7 +71,7 @@ impl<J: HistoryJudge> WrittenPart<J> {
             None => {
                 write_fault_line(out, number, EventCause::Incomplete)?;
                 verdicts.add(Verdict::Refused(EventCause::Incomplete))?;
-                Ok(Status::Header)
+                Ok(Status::NotCertified)
             }
         }
     }

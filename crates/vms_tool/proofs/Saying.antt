@@ -4,6 +4,8 @@ use Rattle.std.proofs.Common.{None, refl, sym, ap, subst}
 use Rattle.std.proofs.lemmas.Option.{same_Some}
 use Rattle.std.specs.Io.KnownBytes.{Appends, Consumes, IsAtEnd}
 use Rattle.std.proofs.KnownBytes.{Consumes-nil}
+use Rattle.vms_certify.specs.KernelRules.{kernel_rules}
+use Rattle.vms_certifying.specs.Answers.{SaysCertified}
 use Rattle.vms_check.specs.Common.{check, shown_by_check}
 use Rattle.vms_gen.specs.declared.numbers.Numbers.{Numbers}
 use Rattle.vms_groups.specs.Common.{AnswersGroups, SaysGroups}
@@ -15,7 +17,7 @@ use Rattle.vms_stream.specs.declared.statuses.Status.TheVariants.{Words, ReadFau
 use Rattle.vms_tool.specs.Common.{AnswersUnder, SaysOf, ShownAs, ShowsUsage, command_of, no_phases, usage_line}
 use Rattle.vms_tool.specs.declared.histories.Histories.{Histories}
 use Rattle.vms_tool.specs.declared.naming.Command.{Command}
-use Rattle.vms_tool.specs.declared.naming.Command.TheVariants.{Check, Replay, Run, Gen, Groups}
+use Rattle.vms_tool.specs.declared.naming.Command.TheVariants.{Check, Replay, Run, Gen, Groups, Certify}
 
 -- the write of the usage line failed
 pub ShowsUsage-unwritten : (held held' : Option (List ℕ)) (n : ℕ) → Appends held held' (take n usage_line)
@@ -92,6 +94,15 @@ module _ {S K : Type 0} (left : S → Option (List ℕ)) (read_faults : S → �
       (none_more old.phases new.phases (ap (λ (h : Histories). h.phases) same))
       (none_more old.groups new.groups (ap (λ (h : Histories). h.groups) same))
       (answers_saying SaysReplay (SaysOf (Some Replay) no_phases) (λ taken written at_end says. (refl, says)) answers)
+
+  pub under_certify : command_of words ≡ Some Certify → new ≡ old
+      → TakesAndWrites left read_faults held write_faults src src' out out' status (SaysCertified kernel_rules)
+      → AnswersUnder words old new left read_faults held write_faults src src' out out' status
+  under_certify is same answers = under_named (Some Certify) no_phases is
+      (none_more old.phases new.phases (ap (λ (h : Histories). h.phases) same))
+      (none_more old.groups new.groups (ap (λ (h : Histories). h.groups) same))
+      (answers_saying (SaysCertified kernel_rules) (SaysOf (Some Certify) no_phases)
+      (λ taken written at_end says. (refl, says)) answers)
 
   -- a run of what the source gives
   pub under_run : command_of words ≡ Some Run → new.groups ≡ old.groups

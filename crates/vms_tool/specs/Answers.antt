@@ -1,6 +1,8 @@
 -- What each status says, by the words.
 use Rattle.std.specs.Prelude.{◌≡◌, ◌≢◌, ℕ, List, [], ◌∷◌, ◌++◌, codes, Option, Some, None}
 use Rattle.std.specs.Io.KnownBytes.{Appends}
+use Rattle.vms_certify.specs.KernelRules.{kernel_rules}
+use Rattle.vms_certifying.specs.Answers.{SaysCertified}
 use Rattle.vms_check.specs.Common.{check, shown_by_check}
 use Rattle.vms_gen.specs.Common.{made_text}
 use Rattle.vms_gen.specs.declared.numbers.Numbers.{Numbers}
@@ -13,11 +15,11 @@ use Rattle.vms_stream.specs.declared.statuses.Status.TheVariants.{Words, ReadFau
 use Rattle.vms_tool.specs.Naming.{command_of}
 use Rattle.vms_tool.specs.declared.histories.Histories.{Histories}
 use Rattle.vms_tool.specs.declared.naming.Command.{Command}
-use Rattle.vms_tool.specs.declared.naming.Command.TheVariants.{Check, Replay, Run, Gen, Groups}
+use Rattle.vms_tool.specs.declared.naming.Command.TheVariants.{Check, Replay, Run, Gen, Groups, Certify}
 
 -- what is written for words that name no command
 abbrev pub usage_line : List ℕ
-usage_line = codes "usage: check | replay | run | gen SEED CPUS LINES | groups" ++ 10 ∷ []
+usage_line = codes "usage: check | replay | run | gen SEED CPUS LINES | groups | certify" ++ 10 ∷ []
 
 -- the usage line was written, or a part of it
 abbrev pub ShownAs : Status → List ℕ → Type 0
@@ -58,6 +60,8 @@ SaysOf (Some (Gen numbers)) made status taken written at_end =
     (made.groups ≡ []) × SaysMade numbers made.phases status taken written
 SaysOf (Some Groups) made status taken written at_end =
     (made.phases ≡ []) × SaysGroups made.groups status taken written at_end
+SaysOf (Some Certify) made status taken written at_end =
+    (made ≡ no_phases) × SaysCertified kernel_rules status taken written at_end
 SaysOf None made status taken written at_end = (made ≡ no_phases) × (taken ≡ []) × ShownAs status written
 
 -- what the program did under these words: the phases that it made on threads are appended to the histories that stood,

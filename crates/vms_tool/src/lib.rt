@@ -13,6 +13,7 @@ pub use histories::Histories;
 pub use laws::texts_have_one_output;
 pub use naming::Command;
 pub use program::run_program;
+pub use vms_certify::tool_certify;
 pub use vms_check::tool_check;
 pub use vms_gen::Numbers;
 pub use vms_groups::{GroupRun, GroupRuns, tool_groups};

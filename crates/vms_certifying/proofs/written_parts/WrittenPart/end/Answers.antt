@@ -51,7 +51,7 @@ returns-in_ok-add-in-None g c =
     let part = c.args.self.now in
     written-ends g.J.HistoryJudge.rules g.J.HistoryJudge.Gathers g.J.HistoryJudge.Accepts c.args.number part part []
     c.args.out.now.items c.write_fault_line.new.out.items c.args.verdicts.now c.add-in-None.new.self
-    (Refused Incomplete) c.in_ok-add-in-None.ensures statuses.Header
+    (Refused Incomplete) c.in_ok-add-in-None.ensures statuses.NotCertified
     (λ first texts lines keeps. (refl, c.in-None.ensures (segments_in part.header first texts) lines keeps.accepts))
     (λ first texts lines keeps. refl)
     (λ first texts lines number. c.in_ok-write_fault_line-in-None.ensures
