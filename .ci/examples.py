@@ -9,11 +9,14 @@ word and reads the last block ``` trace ```. A line `...` stands for any lines.
 Of the first document also: an item of a list of headers has the lines of an input, and then "gives" with
 `line N: CAUSE`, or "is accepted"; a row of a table of body lines has a line, to be read after the block ``` header ```
 and the lines above it, and `CAUSE`, `counts` or `ignored`. Traces have such a list and a table, and so have traces of
-groups (``` header of groups ```).
+groups (``` header of groups ```). A row of the table of other lines of a history has the number of a line of the last
+block ``` trace ``` above it, the line that is to stand there instead, and what `certify` answers.
 """
 import re
 import subprocess
 import sys
+
+COMMANDS = ("check", "replay", "run", "groups", "record", "certify")
 
 
 def run(program, word, text):
@@ -66,7 +69,7 @@ def check_blocks(program, name, document):
         words = info.split()
         if words == ["trace"]:
             trace = text
-        elif len(words) == 2 and words[0] in ("check", "replay", "run", "groups"):
+        elif len(words) == 2 and words[0] in COMMANDS:
             status, found = run(program, words[0], trace)
             yield name + ": " + info, (status, shortened(found, text)), (int(words[1]), text)
 
@@ -108,6 +111,19 @@ def check_lines(program, name, document):
     yield name + ": the lines in all", (status, len(found)), (3, len(wanted))
 
 
+def check_other_lines(program, name, document):
+    """A history with another line in the place of one of its lines; `certify` tells the line at fault."""
+    above, table = re.search(r"(.*)^\| line \| instead \|[^\n]*\n\|[-|]*\n((?:\|[^\n]*\n)*)", document,
+                             re.M | re.S).groups()
+    history = [text for info, text in blocks(above) if info == "trace"][-1].splitlines()
+    for row in table.splitlines():
+        number, instead, answer = (cell.strip() for cell in row.strip("|").split("|")[:3])
+        lines = [*history]
+        lines[int(number) - 1] = instead.strip("`")
+        yield f"{name}: line {number}, {instead}", run(program, "certify", "".join(line + "\n" for line in lines)), \
+            (9, answer.strip("`") + "\n")
+
+
 def check_group_lines(program, name, document):
     """The same of lines of groups; `groups` tells which are refused, and how many count."""
     header = next(text for info, text in blocks(document) if info == "header of groups")
@@ -141,7 +157,8 @@ def main(words):
             checks += [check_headers(program, name, document, "check", "the input"),
                        check_lines(program, name, document),
                        check_headers(program, name, document, "groups", "a trace of groups"),
-                       check_group_lines(program, name, document)]
+                       check_group_lines(program, name, document),
+                       check_other_lines(program, name, document)]
         for check in checks:
             for what, found, wanted in check:
                 tried += 1

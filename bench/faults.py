@@ -304,8 +304,8 @@ class Trials:
         """So is a line of a history that is at fault. What needs the end of the input is answered there alone."""
         head = b"vmtrace 1\ncpus 1\nzone 0 Normal 262144 100 125 150\ngo\nc0 inc 0 Normal nr_mlock\nhistory 1\nphase\n"
         words = self.certified[0].words
-        for more, said in [(b"0 Split 2 0\n", b"line 8: Illegal\n"), (b"0 Split 1 0\nphase\n", b"line 9: NotInScript\n"),
-                           (b"0 Split\n1 LoadT 0 10 0\n", b"line 8: BadEvent\n")]:
+        for more, said in [(b"0 Split 2 0\n", b"line 8: Illegal\n"), (b"0 Split\n0 Split 2 0\n", b"line 8: BadEvent\n"),
+                           (b"0 Split 1 0\nphase\n", b"line 9: NotInScript\n")]:
             found = from_socket(words, [head + more], fails=True)
             expect(f"a failed read after {more!r}", found, (NOT_CERTIFIED, said))
         for more in (b"", b"0 Split 1 0\n", b"0 Split 2 0"):
@@ -383,7 +383,7 @@ class Trials:
 
     def pipe_that_refuses(self):
         """A pipe that nobody reads takes 4096 bytes, and refuses the next ones at once."""
-        for call in self.longs:
+        for call in (call for call in self.longs if len(call.answer[1]) > 4096):
             ours, theirs = os.pipe2(os.O_NONBLOCK)
             with os.fdopen(ours, "rb", 0) as source:
                 with os.fdopen(theirs, "wb", 0) as pipe:

@@ -4,8 +4,9 @@ ghost use Rattle.vms_tool.specs.Answers.{AnswersUnder, ReadsNothing, ShowsUsage}
 ghost use Rattle.vms_tool.specs.Naming.{command_of};
 
 use crate::naming::{Command, named_by};
-use crate::{Gate, Histories, Status};
-use crate::{tool_certify, tool_check, tool_gen, tool_groups, tool_replay, tool_run};
+use crate::{
+    Gate, Histories, Status, tool_certify, tool_check, tool_gen, tool_groups, tool_replay, tool_run,
+};
 use std::alloc::Global;
 use std::sync::Wait;
 use std::thread::Threads;
