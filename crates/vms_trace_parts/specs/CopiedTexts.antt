@@ -1,6 +1,7 @@
 -- What a copy says of a text, by its header and its body.
 use Rattle.std.specs.Prelude.{◌≡◌, ◌⊎◌, ◌<◌, ◌≤◌, ℕ, suc, List, [], ◌∷◌, ◌++◌, drop, flat_map, length, reverse, Option}
 use Rattle.std.specs.Prelude.{Some, None, Result, Ok, Err}
+use Rattle.std.specs.Io.KnownBytes.{IsAtEnd}
 use Rattle.vms_base.specs.Common.{IsHeader}
 use Rattle.vms_base.specs.declared.headers.Header.{Header}
 use Rattle.vms_text.specs.Common.{lines_of}
@@ -102,6 +103,6 @@ SaysCopied parts NotCertified taken written at_end = ⊥
 
 -- so it is by the text wherever a copy says it line by line
 abbrev pub CopiesTexts : Type 0
-CopiesTexts = (parts : List TracePart) (status : Status) (taken written : List ℕ) (at_end : Type 0)
-    → SaysPhased (waiting (following copying)) (shown_given shown_by_copy) parts status taken written at_end
-    → SaysCopied parts status taken written at_end
+CopiesTexts = (parts : List TracePart) (status : Status) (taken written : List ℕ) (left : Option (List ℕ))
+    → SaysPhased (waiting (following copying)) (shown_given shown_by_copy) parts status taken written (IsAtEnd left)
+    → SaysCopied parts status taken written (IsAtEnd left)
