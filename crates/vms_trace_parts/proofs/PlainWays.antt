@@ -30,7 +30,8 @@ abbrev pub at : State → Waiting State TracePart
 at s = record { state = s; waits = [] }
 
 -- past a line nothing waits either, and what comes next and what is printed don't depend on the part that ends there
-next-at : (s : State) (line : List ℕ) (given : Option TracePart) → phased.next (at s) line given ≡ at (plain.next s line)
+next-at : (s : State) (line : List ℕ) (given : Option TracePart)
+    → phased.next (at s) line given ≡ at (plain.next s line)
 next-at (Heading n stage) line None = refl
 next-at (Heading n stage) line (Some part) = refl
 next-at (Body n header above part) line None = refl
@@ -114,8 +115,8 @@ module _ (outcomes : List TracePart) where
     abbrev next : Way (Waiting State TracePart) TracePart
     next = next_way phased here line
 
-    same-line : (given : Option TracePart) (left' : List TracePart) → Goes s line left given left' → (halt : Option Status)
-        → plain.halts s line ≡ halt → LaterSame left' → Same s left (line ∷ lines)
+    same-line : (given : Option TracePart) (left' : List TracePart) → Goes s line left given left'
+        → (halt : Option Status) → plain.halts s line ≡ halt → LaterSame left' → Same s left (line ∷ lines)
     same-line given left' step None none later =
         let on = later (has-later s line left lines given left' step none has) in
         let rest_halt : halted behavior next lines ≡ halted plain (plain.next s line) lines =
@@ -245,14 +246,17 @@ module _ (asked : Waiting State TracePart → List TracePart → Type 0) where
       no_end : (j : Result Line LineCause) → judged header above.lines line ≡ j → ends_at_judged true j ≡ false
           → part_ended j part ≡ [] → Uses (Body n header above part) line lines left left'
       no_end j is closed nothing =
-          uses-none (Body n header above part) line lines left given left' (ends (Body n header above part) line) (open_ends ∙ ap (ends_at_judged true) is ∙ closed)
+          uses-none (Body n header above part) line lines left given left' (ends (Body n header above part) line)
+          (open_ends ∙ ap (ends_at_judged true) is ∙ closed)
           (ap (λ (r : Result Line LineCause). part_ended r part) is ∙ nothing) got none leads
 
-      by : (j : Result Line LineCause) → judged header above.lines line ≡ j → Uses (Body n header above part) line lines left left'
+      by : (j : Result Line LineCause) → judged header above.lines line ≡ j
+          → Uses (Body n header above part) line lines left left'
       by (Ok Blank) is = no_end (Ok Blank) is refl refl
       by (Ok (Lane lane act)) is = no_end (Ok (Lane lane act)) is refl refl
       by (Ok (Boundary boundary)) is =
-          uses-part (Body n header above part) line lines left given left' part (ends (Body n header above part) line) (open_ends ∙ ap (ends_at_judged true) is)
+          uses-part (Body n header above part) line lines left given left' part (ends (Body n header above part) line)
+          (open_ends ∙ ap (ends_at_judged true) is)
           (ap (λ (r : Result Line LineCause). part_ended r part) is) (λ other same. same) got none leads
       by (Err cause) is = no_end (Err cause) is refl refl
 

@@ -14,22 +14,20 @@ use Rattle.vms_header.specs.Common.{spelled_header}
 use Rattle.vms_header.proofs.Common.{read_header-writable}
 use Rattle.vms_text.specs.Common.{lines_of}
 use Rattle.vms_script.specs.Common.{AreSegments, BoundariesCut, LinesMakeOnePhase, Segment, SegmentsMayStand}
-use Rattle.vms_script.specs.Common.{first_start, segments_of}
-use Rattle.vms_script.specs.Common.{judged as judged_line}
+use Rattle.vms_script.specs.Common.{first_start, segments_of, judged as judged_line}
 use Rattle.vms_script.specs.Segments.{contents_of}
 use Rattle.vms_stream.specs.declared.statuses.Status.{Status}
 use Rattle.vms_stream.specs.declared.statuses.Status.TheVariants.{Done, Words, ReadFault, WriteFault, Memory, TooLong}
 use Rattle.vms_stream.specs.declared.statuses.Status.TheVariants as statuses
 use Rattle.vms_stream.specs.Common.{AreLinesTaken, AreMade, Ends, HasAllOutcomes, Halts, IsOn, On, OutcomesLeadToEnd}
 use Rattle.vms_stream.specs.Common.{Oversteps, SaysPhased, Short, UsedAtEnd, Waiting, Way, halted, last_of_way}
-use Rattle.vms_stream.specs.Common.{last_words, lines_taken, most_bytes, printed, shown_on, state_after}
-use Rattle.vms_stream.specs.Common.{way_ends, whole_lines}
+use Rattle.vms_stream.specs.Common.{last_words, lines_taken, most_bytes, printed, shown_on, state_after, way_ends}
+use Rattle.vms_stream.specs.Common.{whole_lines}
 use Rattle.vms_command.specs.Common.{Body, Heading, LinesAbove, exceeds, exceeds_limit, header_line, most_lines}
 use Rattle.vms_command.specs.Common.{printed_head, refuses, shown_given, status_at_end}
 use Rattle.vms_trace_parts.specs.Common.{ArePartsOf, CopiesAboveLimit, CopiesAll, CopiesMost, CopiesTexts}
-use Rattle.vms_trace_parts.specs.Common.{RefusesHeader, SaysCopied}
-use Rattle.vms_trace_parts.specs.Common.{TracePart, begin_segments, copied_text, copying, segments_in}
-use Rattle.vms_trace_parts.specs.Common.{shown_by_copy, text_under}
+use Rattle.vms_trace_parts.specs.Common.{RefusesHeader, SaysCopied, TracePart, begin_segments, copied_text, copying}
+use Rattle.vms_trace_parts.specs.Common.{segments_in, shown_by_copy, text_under}
 use Rattle.vms_trace_parts.proofs.CutLines.{Cut, cut}
 use Rattle.vms_trace_parts.proofs.LaneLines.{lane_lines, segments-lanes, segments_in-push}
 use Rattle.vms_trace_parts.proofs.PlainWays.{State, at, behavior, has-on, parts_made, phased, plain, same, used}

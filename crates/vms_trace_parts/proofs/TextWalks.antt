@@ -1,6 +1,7 @@
 -- Where a copy has come to in its text: what was written, and what the parts are so far.
-use Rattle.std.proofs.Common.{◌≡◌, ℕ, zero, suc, ◌≤◌, nat_lt, Bool, true, false, List, [], ◌∷◌, ◌++◌, Option, Some, None}
-use Rattle.std.proofs.Common.{refl, sym, ap, ap₂, subst, ◌∙◌, arith, append_assoc, append-nil, length, drop, flat_map}
+use Rattle.std.proofs.Common.{◌≡◌, ℕ, zero, suc, ◌≤◌, nat_lt, Bool, true, false, List, [], ◌∷◌, ◌++◌, Option, Some}
+use Rattle.std.proofs.Common.{None, refl, sym, ap, ap₂, subst, ◌∙◌, arith, append_assoc, append-nil, length, drop}
+use Rattle.std.proofs.Common.{flat_map}
 use Rattle.std.proofs.lemmas.List.Elements.{All-cons, All-head, All-nil, All-push, All-tail}
 use Rattle.std.specs.Prelude.{All, Result, Ok, Err, reverse, if◌then◌else◌}
 use Rattle.std.proofs.lemmas.List.{reverse-append}
@@ -263,7 +264,8 @@ module _ (all : List (List ℕ)) where
     walk (line ∷ lines) more s done out stood none =
         let next : State = plain.next s line in
         let here = first-none (plain.halts s line) (halted plain next lines) none in
-        subst (λ (bytes : List ℕ). Stood (state_after plain next lines) (done ++ parts_made s (line ∷ lines)) bytes more)
+        subst (λ (bytes : List ℕ).
+        Stood (state_after plain next lines) (done ++ parts_made s (line ∷ lines)) bytes more)
         (append_assoc out (plain.prints s line) (printed plain next lines)
         ∙ ap (λ (h : Option Status). out ++ printed_from h (plain.prints s line) (printed plain next lines)) (sym here))
         (subst (λ (xs : List TracePart). Stood (state_after plain next lines) xs

@@ -1,6 +1,6 @@
 -- What a copy holds after the lines of a body that it took.
-use Rattle.std.specs.Prelude.{◌≡◌, ℕ, ◌<◌, true, List, [], All, length, map, Option, Some, None, is_some, Result}
-use Rattle.std.specs.Prelude.{◌++◌, OnOk}
+use Rattle.std.specs.Prelude.{◌≡◌, ℕ, ◌<◌, true, List, [], All, length, map, Option, Some, None, is_some, Result, ◌++◌}
+use Rattle.std.specs.Prelude.{OnOk}
 use Rattle.std.specs.List.Sorted.{IsStrictlyIncreasing}
 use Rattle.vms_base.specs.declared.headers.Header.{Header}
 use Rattle.vms_text.specs.declared.acts.Boundary.{Boundary as BoundaryOf}
