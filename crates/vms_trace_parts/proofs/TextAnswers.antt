@@ -1,6 +1,6 @@
 -- What each status of a copy says, by the text.
 use Rattle.std.proofs.Common.{◌≡◌, ◌⊎◌, ℕ, suc, ◌≤◌, nat_lt, Bool, true, false, List, [], ◌∷◌, ◌++◌, Option, Some, None}
-use Rattle.std.proofs.Common.{refl, sym, ap, ap₂, subst, ◌∙◌, arith, append-nil, length, take, drop}
+use Rattle.std.proofs.Common.{refl, sym, ap, ap₂, subst, ◌∙◌, arith, append-nil, append_assoc, length, take, drop}
 use Rattle.std.specs.Prelude.{Result, Ok, Err, if◌then◌else◌}
 use mathlib.Core.Logic.{inl, inr}
 use Rattle.std.specs.Io.KnownBytes.{IsAtEnd}
@@ -19,17 +19,20 @@ use Rattle.vms_script.specs.Segments.{contents_of}
 use Rattle.vms_stream.specs.declared.statuses.Status.{Status}
 use Rattle.vms_stream.specs.declared.statuses.Status.TheVariants.{Done, Words, ReadFault, WriteFault, Memory, TooLong}
 use Rattle.vms_stream.specs.declared.statuses.Status.TheVariants as statuses
+use Rattle.vms_stream.specs.Common.{BeginsOutput, IsDue, MayHalt, output}
 use Rattle.vms_stream.specs.Common.{AreLinesTaken, AreMade, Ends, HasAllOutcomes, Halts, IsOn, On, OutcomesLeadToEnd}
 use Rattle.vms_stream.specs.Common.{Oversteps, SaysPhased, Short, UsedAtEnd, Waiting, Way, halted, last_of_way}
 use Rattle.vms_stream.specs.Common.{last_words, lines_taken, most_bytes, printed, shown_on, state_after, way_ends}
 use Rattle.vms_stream.specs.Common.{whole_lines}
 use Rattle.vms_command.specs.Common.{Body, Heading, LinesAbove, exceeds, exceeds_limit, header_line, most_lines}
 use Rattle.vms_command.specs.Common.{printed_head, refuses, shown_given, status_at_end}
+use Rattle.vms_trace_parts.specs.Common.{BeginsCopy, CopiesTaken, IsDueCopy}
 use Rattle.vms_trace_parts.specs.Common.{ArePartsOf, CopiesAboveLimit, CopiesAll, CopiesMost, CopiesTexts}
 use Rattle.vms_trace_parts.specs.Common.{RefusesHeader, SaysCopied, TracePart, begin_segments, copied_text, copying}
 use Rattle.vms_trace_parts.specs.Common.{segments_in, shown_by_copy, text_under}
 use Rattle.vms_trace_parts.proofs.CutLines.{Cut, cut}
 use Rattle.vms_trace_parts.proofs.LaneLines.{lane_lines, segments-lanes, segments_in-push}
+use Rattle.vms_trace_parts.proofs.PlainWays.{output-begins, printed-begins}
 use Rattle.vms_trace_parts.proofs.PlainWays.{State, at, behavior, has-on, parts_made, phased, plain, same, used}
 use Rattle.vms_trace_parts.proofs.TextWalks.{InBody, InHeader, Stood, counted, drop-within, walk}
 
@@ -270,10 +273,95 @@ module _ (cuts : BoundariesCut) (one : LinesMakeOnePhase) (may : SegmentsMayStan
         let alike = same parts lines first parts has in
         is ∙ alike.prints ∙ copied lines (sym alike.halt ∙ none)
 
+    -- what is due of lines is what the plain behavior prints of them
+    module _ (lines : List (List ℕ)) (judged : AreLinesTaken taken lines at_end) where
+      due-stopped : (halt : Status) → Cut plain first lines halt → written ≡ printed plain first lines
+          → IsDueCopy taken written at_end
+      due-stopped statuses.Header c is = inl (refused-cut lines judged c is)
+      due-stopped TooLong c is = inr (inl (limited-cut lines judged c is))
+      due-stopped statuses.NotCertified c is = absurd (never (state_after plain first c.front) c.line c.halts)
+      due-stopped _ c is = absurd (subst MayHalt c.halts (plain.may_halt (state_after plain first c.front) c.line))
+
+      due-printed : written ≡ printed plain first lines → IsDueCopy taken written at_end
+      due-printed is = by (halted plain first lines) refl
+        where
+          by : (halt : Option Status) → halted plain first lines ≡ halt → IsDueCopy taken written at_end
+          by None none = inr (inr (record {
+            lines = lines;
+            judged = judged;
+            none_stops = none;
+            written_is = is ∙ copied lines none;
+          }))
+          by (Some halt) stops = due-stopped halt (cut plain first lines halt stops) is
+
+    due-output : at_end → length taken ≤ most_bytes → written ≡ output plain (lines_of taken)
+        → IsDueCopy taken written at_end
+    due-output ended within is = by (halted plain first lines) refl
+      where
+        lines : List (List ℕ)
+        lines = lines_of taken
+
+        judged : AreLinesTaken taken (lines_of taken) at_end
+        judged = inr (ended, within, refl)
+
+        ends_in : (s : State) (done : List TracePart) → Stood (lines_of taken) s done (printed plain first (lines_of
+            taken)) []
+            → written ≡ printed plain first (lines_of taken) ++ plain.last s → IsDueCopy taken written at_end
+        ends_in (Heading n stage) done stood prints = inl (record {
+          lines = lines_of taken;
+          judged = judged;
+          fault = record { line = n; cause = missing stage };
+          refused = sym stood.read;
+          settled = inr ended;
+          written_is = prints ∙ ap (λ (bytes : List ℕ). bytes ++ header_line (record { line = n; cause = missing stage }))
+              stood.nothing;
+        })
+        ends_in (Body n header above part) done stood prints =
+            due-printed (lines_of taken) judged (prints ∙ append-nil (printed plain first (lines_of taken)))
+
+        by : (halt : Option Status) → halted plain first (lines_of taken) ≡ halt → IsDueCopy taken written at_end
+        by None none =
+            ends_in (state_after plain first (lines_of taken)) (parts_made first (lines_of taken))
+            (stood-after (lines_of taken) none)
+            (is ∙ ap (λ (h : Option Status). printed plain first (lines_of taken)
+            ++ last_words h (plain.last (state_after plain first (lines_of taken)))) none)
+        by (Some halt) stops =
+            due-stopped (lines_of taken) judged halt (cut plain first (lines_of taken) halt stops)
+            (is ∙ ap (λ (h : Option Status). printed plain first (lines_of taken)
+            ++ last_words h (plain.last (state_after plain first (lines_of taken)))) stops
+            ∙ append-nil (printed plain first (lines_of taken)))
+
+  module _ (parts : List TracePart) (taken written : List ℕ) (at_end : Type 0) where
+    -- what was written begins what is due
+    begins-copy : BeginsOutput (behavior parts) taken written at_end → BeginsCopy taken written at_end
+    begins-copy begins = by begins.due
+      where
+        more : (whole_text text rest : List ℕ) → written ++ begins.unwritten ≡ text → whole_text ≡ text ++ rest
+            → written ++ (begins.unwritten ++ rest) ≡ whole_text
+        more whole_text text rest is whole =
+            sym (append_assoc written begins.unwritten rest) ∙ ap (λ (bytes : List ℕ). bytes ++ rest) is ∙ sym whole
+
+        by : IsDue (behavior parts) taken (written ++ begins.unwritten) at_end → BeginsCopy taken written at_end
+        by (inl is) =
+            let rest = printed-begins parts (lines_taken taken) first parts in
+            record {
+              unwritten = begins.unwritten ++ rest.0;
+              due = due-printed parts taken (written ++ (begins.unwritten ++ rest.0)) at_end (lines_taken taken)
+                  (inl refl) (more (printed plain first (lines_taken taken))
+                  (printed (behavior parts) (behavior parts).start (lines_taken taken)) rest.0 is rest.1);
+            }
+        by (inr (ended, within, is)) =
+            let rest = output-begins parts (lines_of taken) first parts in
+            record {
+              unwritten = begins.unwritten ++ rest.0;
+              due = due-output parts taken (written ++ (begins.unwritten ++ rest.0)) at_end ended within
+                  (more (output plain (lines_of taken)) (output (behavior parts) (lines_of taken)) rest.0 is rest.1);
+            }
+
     SaysCopied-phased : (status : Status)
         → SaysPhased phased (shown_given shown_by_copy) parts status taken written at_end
         → SaysCopied parts status taken written at_end
-    SaysCopied-phased Done says = says-end Done says.says says.made
+    SaysCopied-phased Done says = says-end parts taken written at_end Done says.says says.made
     SaysCopied-phased Words says = absurd says.says
     SaysCopied-phased statuses.Header says = by says.says says.made
       where
@@ -282,31 +370,31 @@ module _ (cuts : BoundariesCut) (one : LinesMakeOnePhase) (may : SegmentsMayStan
             → AreMade phased (shown_given shown_by_copy) parts taken written at_end statuses.Header at
             → RefusesHeader taken written at_end
         by (inl halts) made =
-            let stops = halts-plain statuses.Header halts made.1 in
-            refused-cut halts.lines halts.judged (cut plain first halts.lines statuses.Header stops.0) stops.1
-        by (inr ends) made = says-end statuses.Header ends made
-    SaysCopied-phased statuses.Refused says = says-end statuses.Refused says.says says.made
+            let stops = halts-plain parts taken written at_end statuses.Header halts made.1 in
+            refused-cut parts taken written at_end halts.lines halts.judged (cut plain first halts.lines statuses.Header stops.0) stops.1
+        by (inr ends) made = says-end parts taken written at_end statuses.Header ends made
+    SaysCopied-phased statuses.Refused says = says-end parts taken written at_end statuses.Refused says.says says.made
     SaysCopied-phased ReadFault says =
         let goes = says.says in
         let whole : take most_bytes taken ≡ taken = take_all most_bytes taken goes.within in
-        goes-plain (lines_taken taken)
+        goes-plain parts taken written at_end (lines_taken taken)
         (subst (λ (text : List ℕ). halted (behavior parts) (behavior parts).start (whole_lines text) ≡ None) (sym whole)
         goes.none_halts)
         (goes.all_written ∙ ap (λ (text : List ℕ). printed (behavior parts) (behavior parts).start (whole_lines text))
         (sym whole)) says.made.1
-    SaysCopied-phased WriteFault says = tt
-    SaysCopied-phased Memory says = tt
+    SaysCopied-phased WriteFault says = begins-copy says.says
+    SaysCopied-phased Memory says = begins-copy says.says
     SaysCopied-phased TooLong says = by says.says says.made
       where
         by : (at : Halts (behavior parts) TooLong taken written at_end ⊎ Oversteps (behavior parts) taken written)
             → AreMade phased (shown_given shown_by_copy) parts taken written at_end TooLong at
             → CopiesAboveLimit taken written at_end ⊎ CopiesMost taken written
         by (inl halts) made =
-            let stops = halts-plain TooLong halts made.1 in
-            inl (limited-cut halts.lines halts.judged (cut plain first halts.lines TooLong stops.0) stops.1)
+            let stops = halts-plain parts taken written at_end TooLong halts made.1 in
+            inl (limited-cut parts taken written at_end halts.lines halts.judged (cut plain first halts.lines TooLong stops.0) stops.1)
         by (inr oversteps) made = inr (record {
           beyond = oversteps.beyond;
-          written_is = goes-plain (lines_taken taken) oversteps.none_halts oversteps.whole_output made.1;
+          written_is = goes-plain parts taken written at_end (lines_taken taken) oversteps.none_halts oversteps.whole_output made.1;
         })
     SaysCopied-phased statuses.NotCertified says = by says.says says.made
       where
@@ -315,10 +403,10 @@ module _ (cuts : BoundariesCut) (one : LinesMakeOnePhase) (may : SegmentsMayStan
             at_end)
             → AreMade phased (shown_given shown_by_copy) parts taken written at_end statuses.NotCertified at → ⊥
         by (inl halts) made =
-            let stops = halts-plain statuses.NotCertified halts made.1 in
+            let stops = halts-plain parts taken written at_end statuses.NotCertified halts made.1 in
             let c = cut plain first halts.lines statuses.NotCertified stops.0 in
             never (state_after plain first c.front) c.line c.halts
-        by (inr ends) made = says-end statuses.NotCertified ends made
+        by (inr ends) made = says-end parts taken written at_end statuses.NotCertified ends made
 
   pub CopiesTexts-holds : CopiesTexts
   CopiesTexts-holds parts status taken written left says =

@@ -4,6 +4,6 @@ pub use Rattle.vms_trace_parts.specs.Parts.{boundary_of, header_in, part_of, par
 pub use Rattle.vms_trace_parts.specs.Parts.Begin.{AfterHeader, WithBoundary}
 pub use Rattle.vms_trace_parts.specs.Copying.{copied_line, copying, part_past, shown_by_copy}
 pub use Rattle.vms_trace_parts.specs.BodyStates.{StandsBefore, TakesLine, held_begin, held_part}
-pub use Rattle.vms_trace_parts.specs.CopiedTexts.{AreAboveLimit, ArePartsOf, CopiesAboveLimit, CopiesAll, CopiesMost}
-pub use Rattle.vms_trace_parts.specs.CopiedTexts.{CopiesTexts, RefusesHeader, SaysCopied, copied_text, counted_text}
-pub use Rattle.vms_trace_parts.specs.CopiedTexts.{stops_copy, text_under}
+pub use Rattle.vms_trace_parts.specs.CopiedTexts.{AreAboveLimit, ArePartsOf, BeginsCopy, CopiesAboveLimit, CopiesAll}
+pub use Rattle.vms_trace_parts.specs.CopiedTexts.{CopiesMost, CopiesTaken, CopiesTexts, IsDueCopy, RefusesHeader}
+pub use Rattle.vms_trace_parts.specs.CopiedTexts.{SaysCopied, copied_text, counted_text, stops_copy, text_under}

@@ -88,6 +88,24 @@ pub record CopiesMost (taken written : List ℕ) : Type 0 where
   pub beyond : most_bytes < length taken
   pub written_is : written ≡ copied_text (lines_taken taken)
 
+-- no line stops a copy, and the lines that were taken were copied
+pub record CopiesTaken (taken written : List ℕ) (at_end : Type 0) : Type 0 where
+  pub lines : List (List ℕ)
+  pub judged : AreLinesTaken taken lines at_end
+  pub none_stops : stops_copy lines ≡ None
+  pub written_is : written ≡ copied_text lines
+
+-- what is to be written of the input so far: the one line of a refused header, the copy of the lines above a limit, or
+-- the copy of all lines that were taken
+abbrev pub IsDueCopy : List ℕ → List ℕ → Type 0 → Type 0
+IsDueCopy taken text at_end =
+    RefusesHeader taken text at_end ⊎ CopiesAboveLimit taken text at_end ⊎ CopiesTaken taken text at_end
+
+-- what was written begins it
+pub record BeginsCopy (taken written : List ℕ) (at_end : Type 0) : Type 0 where
+  pub unwritten : List ℕ
+  pub due : IsDueCopy taken (written ++ unwritten) at_end
+
 -- what a status says of what was taken and written, and of the parts that were kept
 abbrev pub SaysCopied : List TracePart → Status → List ℕ → List ℕ → Type 0 → Type 0
 SaysCopied parts Done taken written at_end = CopiesAll parts taken written at_end (λ refused. refused ≡ 0)
@@ -95,8 +113,8 @@ SaysCopied parts Words taken written at_end = ⊥
 SaysCopied parts statuses.Header taken written at_end = RefusesHeader taken written at_end
 SaysCopied parts Refused taken written at_end = CopiesAll parts taken written at_end (λ refused. 1 ≤ refused)
 SaysCopied parts ReadFault taken written at_end = written ≡ copied_text (lines_taken taken)
-SaysCopied parts WriteFault taken written at_end = Unit {0}
-SaysCopied parts Memory taken written at_end = Unit {0}
+SaysCopied parts WriteFault taken written at_end = BeginsCopy taken written at_end
+SaysCopied parts Memory taken written at_end = BeginsCopy taken written at_end
 SaysCopied parts TooLong taken written at_end =
     CopiesAboveLimit taken written at_end ⊎ CopiesMost taken written
 SaysCopied parts NotCertified taken written at_end = ⊥
