@@ -1,156 +1,39 @@
 -- What each status of a copy says, by the text.
 use Rattle.std.proofs.Common.{◌≡◌, ◌⊎◌, ℕ, suc, ◌≤◌, nat_lt, Bool, true, false, List, [], ◌∷◌, ◌++◌, Option, Some, None}
-use Rattle.std.proofs.Common.{refl, sym, ap, ap₂, subst, ◌∙◌, arith, append-nil, append_assoc, length, take, drop}
-use Rattle.std.specs.Prelude.{Result, Ok, Err, if◌then◌else◌}
+use Rattle.std.proofs.Common.{refl, sym, ap, ap₂, subst, ◌∙◌, arith, append-nil, length, take, drop}
+use Rattle.std.specs.Prelude.{if◌then◌else◌}
 use mathlib.Core.Logic.{inl, inr}
 use Rattle.std.specs.Io.KnownBytes.{IsAtEnd}
 use Rattle.std.proofs.lemmas.Bool.Decides.{nat_tests}
 use Rattle.std.proofs.lemmas.List.{take_all}
 use Rattle.vms_base.specs.Common.{IsHeader}
 use Rattle.vms_base.specs.declared.headers.Header.{Header}
-use Rattle.vms_header.specs.declared.causes.HeaderCause.{HeaderCause}
-use Rattle.vms_header.specs.Common.{Fault, HeadStep, Opening, Stage, head_line, header_from, missing, on_step}
-use Rattle.vms_header.specs.Common.{spelled_header}
+use Rattle.vms_header.specs.Common.{missing}
 use Rattle.vms_header.proofs.Common.{read_header-writable}
 use Rattle.vms_text.specs.Common.{lines_of}
 use Rattle.vms_script.specs.Common.{AreSegments, BoundariesCut, LinesMakeOnePhase, Segment, SegmentsMayStand}
-use Rattle.vms_script.specs.Common.{first_start, segments_of, judged as judged_line}
+use Rattle.vms_script.specs.Common.{first_start, segments_of}
 use Rattle.vms_script.specs.Segments.{contents_of}
 use Rattle.vms_stream.specs.declared.statuses.Status.{Status}
 use Rattle.vms_stream.specs.declared.statuses.Status.TheVariants.{Done, Words, ReadFault, WriteFault, Memory, TooLong}
 use Rattle.vms_stream.specs.declared.statuses.Status.TheVariants as statuses
-use Rattle.vms_stream.specs.Common.{BeginsOutput, IsDue, MayHalt, output}
-use Rattle.vms_stream.specs.Common.{AreLinesTaken, AreMade, Ends, HasAllOutcomes, Halts, IsOn, On, OutcomesLeadToEnd}
-use Rattle.vms_stream.specs.Common.{Oversteps, SaysPhased, Short, UsedAtEnd, Waiting, Way, halted, last_of_way}
-use Rattle.vms_stream.specs.Common.{last_words, lines_taken, most_bytes, printed, shown_on, state_after, way_ends}
-use Rattle.vms_stream.specs.Common.{whole_lines}
-use Rattle.vms_command.specs.Common.{Body, Heading, LinesAbove, exceeds, exceeds_limit, header_line, most_lines}
-use Rattle.vms_command.specs.Common.{printed_head, refuses, shown_given, status_at_end}
-use Rattle.vms_trace_parts.specs.Common.{BeginsCopy, CopiesTaken, IsDueCopy}
+use Rattle.vms_stream.specs.Common.{AreMade, Ends, HasAllOutcomes, Halts, IsOn, On, OutcomesLeadToEnd, Oversteps}
+use Rattle.vms_stream.specs.Common.{SaysPhased, Short, UsedAtEnd, Waiting, Way, halted, last_of_way, last_words}
+use Rattle.vms_stream.specs.Common.{lines_taken, most_bytes, printed, shown_on, state_after, way_ends, whole_lines}
+use Rattle.vms_command.specs.Common.{Body, Heading, LinesAbove, header_line, shown_given, status_at_end}
 use Rattle.vms_trace_parts.specs.Common.{ArePartsOf, CopiesAboveLimit, CopiesAll, CopiesMost, CopiesTexts}
-use Rattle.vms_trace_parts.specs.Common.{RefusesHeader, SaysCopied, TracePart, begin_segments, copied_text, copying}
-use Rattle.vms_trace_parts.specs.Common.{segments_in, shown_by_copy, text_under}
-use Rattle.vms_trace_parts.proofs.CutLines.{Cut, cut}
+use Rattle.vms_trace_parts.specs.Common.{RefusesHeader, SaysCopied, TracePart, begin_segments, copied_text, segments_in}
+use Rattle.vms_trace_parts.specs.Common.{shown_by_copy}
+use Rattle.vms_trace_parts.proofs.CutLines.{cut}
 use Rattle.vms_trace_parts.proofs.LaneLines.{lane_lines, segments-lanes, segments_in-push}
-use Rattle.vms_trace_parts.proofs.PlainWays.{output-begins, printed-begins}
-use Rattle.vms_trace_parts.proofs.PlainWays.{State, at, behavior, has-on, parts_made, phased, plain, same, used}
-use Rattle.vms_trace_parts.proofs.TextWalks.{InBody, InHeader, Stood, counted, drop-within, walk}
-
-abbrev first : State
-first = Heading 1 Opening
-
-stood-first : (all : List (List ℕ)) → Stood all first [] [] all
-stood-first all =
-    record { none_done = refl; nothing = refl; above = 0; number = refl; after = refl; read = refl }
+use Rattle.vms_trace_parts.proofs.TextWalks.{InBody, Stood}
+use Rattle.vms_trace_parts.proofs.PlainWays.{State, at, behavior, has-on, phased, plain, same}
+use Rattle.vms_trace_parts.proofs.UsedParts.{parts_made, used}
+use Rattle.vms_trace_parts.proofs.CopiedLines.{copied, first, stood-after, stood-copied}
+use Rattle.vms_trace_parts.proofs.StoppedCopies.{begins-copy, limited-cut, never, refused-cut}
 
 module _ (cuts : BoundariesCut) (one : LinesMakeOnePhase) (may : SegmentsMayStand) where
-  -- where lines that stop nothing lead
-  stood-after : (lines : List (List ℕ)) → halted plain first lines ≡ None
-      → Stood lines (state_after plain first lines) (parts_made first lines) (printed plain first lines) []
-  stood-after lines none =
-      walk lines cuts one lines [] first [] []
-      (subst (λ (more : List (List ℕ)). Stood lines first [] [] more) (sym (append-nil lines)) (stood-first lines)) none
-
-  -- what lines print that stop nothing is their copy
-  stood-copied : (lines : List (List ℕ)) (s : State) (done : List TracePart) (out : List ℕ) → Stood lines s done out []
-      → out ≡ copied_text lines
-  stood-copied lines (Heading n stage) done out stood =
-      stood.nothing ∙ ap (λ (found : Result (Header × ℕ) Fault). text_under found lines) stood.read
-  stood-copied lines (Body n header above part) done out stood =
-      stood.out_is
-      ∙ ap (λ (come : LinesAbove). spelled_header header ++ counted header come.lines) stood.come
-      ∙ ap (λ (found : Result (Header × ℕ) Fault). text_under found lines) (sym stood.header_is)
-
-  copied : (lines : List (List ℕ)) → halted plain first lines ≡ None → printed plain first lines ≡ copied_text lines
-  copied lines none = stood-copied lines (state_after plain first lines) (parts_made first lines)
-      (printed plain first lines) (stood-after lines none)
-
-  -- a limit alone stops a body
-  no_header : (over : Bool) → exceeds over ≡ Some statuses.Header → ⊥
-  no_header true is = cc
-  no_header false is = cc
-
-  no_verdict : (over : Bool) → exceeds over ≡ Some statuses.NotCertified → ⊥
-  no_verdict true is = cc
-  no_verdict false is = cc
-
-  by_over : {halt : Option Status} {status : Status} (over : Bool) → (Some TooLong ≡ Some status → ⊥)
-      → (if over then Some TooLong else halt) ≡ Some status → halt ≡ Some status
-  by_over true other is = absurd (other is)
-  by_over false other is = is
-
-  no_verdict-read : (read : Result HeadStep HeaderCause) → refuses read ≡ Some statuses.NotCertified → ⊥
-  no_verdict-read (Ok step) is = cc
-  no_verdict-read (Err cause) is = cc
-
-  never : (s : State) (line : List ℕ) → plain.halts s line ≡ Some statuses.NotCertified → ⊥
-  never (Heading n stage) line is =
-      no_verdict-read (head_line stage line) (by_over (nat_lt most_lines n) (λ same. cc) is)
-  never (Body n header above part) line is =
-      no_verdict (exceeds_limit above.lines (judged_line header above.lines line))
-      (by_over (nat_lt most_lines n) (λ same. cc) is)
-
   module _ (parts : List TracePart) (taken written : List ℕ) (at_end : Type 0) where
-    -- where a line stops the copy
-    module _ (lines : List (List ℕ)) (judged : AreLinesTaken taken lines at_end) where
-      refused-head : (n : ℕ) (stage : Stage) (line : List ℕ) (rest : List (List ℕ)) (done : List TracePart)
-          (out : List ℕ) → InHeader lines n stage done out (line ∷ rest)
-          → refuses (head_line stage line) ≡ Some statuses.Header
-          → written ≡ out ++ printed_head copying n (head_line stage line)
-          → RefusesHeader taken written at_end
-      refused-head n stage line rest done out stood refuses_it prints = by (head_line stage line) refl
-        where
-          by : (read : Result HeadStep HeaderCause) → head_line stage line ≡ read
-              → RefusesHeader taken written at_end
-          by (Ok step) is =
-              let none : None ≡ Some statuses.Header = sym (ap refuses is) ∙ refuses_it in absurd cc
-          by (Err cause) is =
-              let within = drop-within stood.above lines line rest stood.after in
-              record {
-                lines = lines;
-                judged = judged;
-                fault = record { line = n; cause = cause };
-                refused = sym stood.read ∙ ap (λ (r : Result HeadStep HeaderCause).
-                    on_step n r (λ next. header_from (suc n) next rest)) is;
-                settled = inl (omega (arith, within, stood.number));
-                written_is = prints ∙ ap (λ (bytes : List ℕ). bytes ++ printed_head copying n (head_line stage line))
-                    stood.nothing ∙ ap (printed_head copying n) is;
-              }
-
-      refused-at : (s : State) (line : List ℕ) (rest : List (List ℕ)) (done : List TracePart) (out : List ℕ)
-          → Stood lines s done out (line ∷ rest) → plain.halts s line ≡ Some statuses.Header
-          → written ≡ out ++ plain.prints s line → RefusesHeader taken written at_end
-      refused-at (Heading n stage) line rest done out stood halts prints =
-          refused-head n stage line rest done out stood (by_over (nat_lt most_lines n) (λ same. cc) halts) prints
-      refused-at (Body n header above part) line rest done out stood halts prints =
-          absurd (no_header (exceeds_limit above.lines (judged_line header above.lines line))
-          (by_over (nat_lt most_lines n) (λ same. cc) halts))
-
-      refused-cut : Cut plain first lines statuses.Header → written ≡ printed plain first lines
-          → RefusesHeader taken written at_end
-      refused-cut c is =
-          refused-at (state_after plain first c.front) c.line c.rest (parts_made first c.front)
-          (printed plain first c.front)
-          (walk lines cuts one c.front (c.line ∷ c.rest) first [] []
-          (subst (λ (more : List (List ℕ)). Stood lines first [] [] more) c.parts (stood-first lines)) c.none_above)
-          c.halts (is ∙ c.prints)
-
-      limited-cut : Cut plain first lines TooLong → written ≡ printed plain first lines
-          → CopiesAboveLimit taken written at_end
-      limited-cut c is = record {
-        lines = lines;
-        judged = judged;
-        above = c.front;
-        are = record {
-          line = c.line;
-          rest = c.rest;
-          parts = c.parts;
-          none_above = c.none_above;
-          exceeds = c.stops;
-        };
-        written_is = is ∙ c.prints ∙ append-nil (printed plain first c.front) ∙ copied c.front c.none_above;
-      }
-
     -- the copy came to the end of its input
     module _ (ended : at_end) (within : length taken ≤ most_bytes) where
       abbrev all : List (List ℕ)
@@ -190,7 +73,7 @@ module _ (cuts : BoundariesCut) (one : LinesMakeOnePhase) (may : SegmentsMayStan
           refusals = above.refused;
           parts_are = subst (λ (xs : List TracePart). ArePartsOf all xs above.refused) (sym same) are-parts;
           refused = holds;
-          written_is = is ∙ stood-copied all (Body n header above part) done out stood;
+          written_is = is ∙ stood-copied cuts one all (Body n header above part) done out stood;
         }
 
         says-refused : parts ≡ done ++ part ∷ [] → written ≡ out
@@ -254,7 +137,7 @@ module _ (cuts : BoundariesCut) (one : LinesMakeOnePhase) (may : SegmentsMayStan
         subst (λ (status : Status). SaysCopied parts status taken written at_end)
         (sym (ap (way_ends phased) uses.way) ∙ ends.ending_is)
         (at-end ends.ended ends.within (state_after plain first lines) (parts_made first lines) uses.others
-        (printed plain first lines) (stood-after lines none) uses.used uses.asks
+        (printed plain first lines) (stood-after cuts one lines none) uses.used uses.asks
         (subst (shown_on phased (shown_given shown_by_copy)) uses.way ends.shown) prints)
 
     -- what stops it stops the plain behavior too
@@ -271,97 +154,12 @@ module _ (cuts : BoundariesCut) (one : LinesMakeOnePhase) (may : SegmentsMayStan
         → HasAllOutcomes phased (On phased.start parts) lines → written ≡ copied_text lines
     goes-plain lines none is has =
         let alike = same parts lines first parts has in
-        is ∙ alike.prints ∙ copied lines (sym alike.halt ∙ none)
-
-    -- what is due of lines is what the plain behavior prints of them
-    module _ (lines : List (List ℕ)) (judged : AreLinesTaken taken lines at_end) where
-      due-stopped : (halt : Status) → Cut plain first lines halt → written ≡ printed plain first lines
-          → IsDueCopy taken written at_end
-      due-stopped statuses.Header c is = inl (refused-cut lines judged c is)
-      due-stopped TooLong c is = inr (inl (limited-cut lines judged c is))
-      due-stopped statuses.NotCertified c is = absurd (never (state_after plain first c.front) c.line c.halts)
-      due-stopped _ c is = absurd (subst MayHalt c.halts (plain.may_halt (state_after plain first c.front) c.line))
-
-      due-printed : written ≡ printed plain first lines → IsDueCopy taken written at_end
-      due-printed is = by (halted plain first lines) refl
-        where
-          by : (halt : Option Status) → halted plain first lines ≡ halt → IsDueCopy taken written at_end
-          by None none = inr (inr (record {
-            lines = lines;
-            judged = judged;
-            none_stops = none;
-            written_is = is ∙ copied lines none;
-          }))
-          by (Some halt) stops = due-stopped halt (cut plain first lines halt stops) is
-
-    due-output : at_end → length taken ≤ most_bytes → written ≡ output plain (lines_of taken)
-        → IsDueCopy taken written at_end
-    due-output ended within is = by (halted plain first lines) refl
-      where
-        lines : List (List ℕ)
-        lines = lines_of taken
-
-        judged : AreLinesTaken taken (lines_of taken) at_end
-        judged = inr (ended, within, refl)
-
-        ends_in : (s : State) (done : List TracePart) → Stood (lines_of taken) s done (printed plain first (lines_of
-            taken)) []
-            → written ≡ printed plain first (lines_of taken) ++ plain.last s → IsDueCopy taken written at_end
-        ends_in (Heading n stage) done stood prints = inl (record {
-          lines = lines_of taken;
-          judged = judged;
-          fault = record { line = n; cause = missing stage };
-          refused = sym stood.read;
-          settled = inr ended;
-          written_is = prints ∙ ap (λ (bytes : List ℕ). bytes ++ header_line (record { line = n; cause = missing stage }))
-              stood.nothing;
-        })
-        ends_in (Body n header above part) done stood prints =
-            due-printed (lines_of taken) judged (prints ∙ append-nil (printed plain first (lines_of taken)))
-
-        by : (halt : Option Status) → halted plain first (lines_of taken) ≡ halt → IsDueCopy taken written at_end
-        by None none =
-            ends_in (state_after plain first (lines_of taken)) (parts_made first (lines_of taken))
-            (stood-after (lines_of taken) none)
-            (is ∙ ap (λ (h : Option Status). printed plain first (lines_of taken)
-            ++ last_words h (plain.last (state_after plain first (lines_of taken)))) none)
-        by (Some halt) stops =
-            due-stopped (lines_of taken) judged halt (cut plain first (lines_of taken) halt stops)
-            (is ∙ ap (λ (h : Option Status). printed plain first (lines_of taken)
-            ++ last_words h (plain.last (state_after plain first (lines_of taken)))) stops
-            ∙ append-nil (printed plain first (lines_of taken)))
-
-  module _ (parts : List TracePart) (taken written : List ℕ) (at_end : Type 0) where
-    -- what was written begins what is due
-    begins-copy : BeginsOutput (behavior parts) taken written at_end → BeginsCopy taken written at_end
-    begins-copy begins = by begins.due
-      where
-        more : (whole_text text rest : List ℕ) → written ++ begins.unwritten ≡ text → whole_text ≡ text ++ rest
-            → written ++ (begins.unwritten ++ rest) ≡ whole_text
-        more whole_text text rest is whole =
-            sym (append_assoc written begins.unwritten rest) ∙ ap (λ (bytes : List ℕ). bytes ++ rest) is ∙ sym whole
-
-        by : IsDue (behavior parts) taken (written ++ begins.unwritten) at_end → BeginsCopy taken written at_end
-        by (inl is) =
-            let rest = printed-begins parts (lines_taken taken) first parts in
-            record {
-              unwritten = begins.unwritten ++ rest.0;
-              due = due-printed parts taken (written ++ (begins.unwritten ++ rest.0)) at_end (lines_taken taken)
-                  (inl refl) (more (printed plain first (lines_taken taken))
-                  (printed (behavior parts) (behavior parts).start (lines_taken taken)) rest.0 is rest.1);
-            }
-        by (inr (ended, within, is)) =
-            let rest = output-begins parts (lines_of taken) first parts in
-            record {
-              unwritten = begins.unwritten ++ rest.0;
-              due = due-output parts taken (written ++ (begins.unwritten ++ rest.0)) at_end ended within
-                  (more (output plain (lines_of taken)) (output (behavior parts) (lines_of taken)) rest.0 is rest.1);
-            }
+        is ∙ alike.prints ∙ copied cuts one lines (sym alike.halt ∙ none)
 
     SaysCopied-phased : (status : Status)
         → SaysPhased phased (shown_given shown_by_copy) parts status taken written at_end
         → SaysCopied parts status taken written at_end
-    SaysCopied-phased Done says = says-end parts taken written at_end Done says.says says.made
+    SaysCopied-phased Done says = says-end Done says.says says.made
     SaysCopied-phased Words says = absurd says.says
     SaysCopied-phased statuses.Header says = by says.says says.made
       where
@@ -370,31 +168,33 @@ module _ (cuts : BoundariesCut) (one : LinesMakeOnePhase) (may : SegmentsMayStan
             → AreMade phased (shown_given shown_by_copy) parts taken written at_end statuses.Header at
             → RefusesHeader taken written at_end
         by (inl halts) made =
-            let stops = halts-plain parts taken written at_end statuses.Header halts made.1 in
-            refused-cut parts taken written at_end halts.lines halts.judged (cut plain first halts.lines statuses.Header stops.0) stops.1
-        by (inr ends) made = says-end parts taken written at_end statuses.Header ends made
-    SaysCopied-phased statuses.Refused says = says-end parts taken written at_end statuses.Refused says.says says.made
+            let stops = halts-plain statuses.Header halts made.1 in
+            refused-cut cuts one taken written at_end halts.lines halts.judged
+            (cut plain first halts.lines statuses.Header stops.0) stops.1
+        by (inr ends) made = says-end statuses.Header ends made
+    SaysCopied-phased statuses.Refused says = says-end statuses.Refused says.says says.made
     SaysCopied-phased ReadFault says =
         let goes = says.says in
         let whole : take most_bytes taken ≡ taken = take_all most_bytes taken goes.within in
-        goes-plain parts taken written at_end (lines_taken taken)
+        goes-plain (lines_taken taken)
         (subst (λ (text : List ℕ). halted (behavior parts) (behavior parts).start (whole_lines text) ≡ None) (sym whole)
         goes.none_halts)
         (goes.all_written ∙ ap (λ (text : List ℕ). printed (behavior parts) (behavior parts).start (whole_lines text))
         (sym whole)) says.made.1
-    SaysCopied-phased WriteFault says = begins-copy says.says
-    SaysCopied-phased Memory says = begins-copy says.says
+    SaysCopied-phased WriteFault says = begins-copy cuts one parts taken written at_end says.says
+    SaysCopied-phased Memory says = begins-copy cuts one parts taken written at_end says.says
     SaysCopied-phased TooLong says = by says.says says.made
       where
         by : (at : Halts (behavior parts) TooLong taken written at_end ⊎ Oversteps (behavior parts) taken written)
             → AreMade phased (shown_given shown_by_copy) parts taken written at_end TooLong at
             → CopiesAboveLimit taken written at_end ⊎ CopiesMost taken written
         by (inl halts) made =
-            let stops = halts-plain parts taken written at_end TooLong halts made.1 in
-            inl (limited-cut parts taken written at_end halts.lines halts.judged (cut plain first halts.lines TooLong stops.0) stops.1)
+            let stops = halts-plain TooLong halts made.1 in
+            inl (limited-cut cuts one taken written at_end halts.lines halts.judged
+            (cut plain first halts.lines TooLong stops.0) stops.1)
         by (inr oversteps) made = inr (record {
           beyond = oversteps.beyond;
-          written_is = goes-plain parts taken written at_end (lines_taken taken) oversteps.none_halts oversteps.whole_output made.1;
+          written_is = goes-plain (lines_taken taken) oversteps.none_halts oversteps.whole_output made.1;
         })
     SaysCopied-phased statuses.NotCertified says = by says.says says.made
       where
@@ -403,10 +203,10 @@ module _ (cuts : BoundariesCut) (one : LinesMakeOnePhase) (may : SegmentsMayStan
             at_end)
             → AreMade phased (shown_given shown_by_copy) parts taken written at_end statuses.NotCertified at → ⊥
         by (inl halts) made =
-            let stops = halts-plain parts taken written at_end statuses.NotCertified halts made.1 in
+            let stops = halts-plain statuses.NotCertified halts made.1 in
             let c = cut plain first halts.lines statuses.NotCertified stops.0 in
             never (state_after plain first c.front) c.line c.halts
-        by (inr ends) made = says-end parts taken written at_end statuses.NotCertified ends made
+        by (inr ends) made = says-end statuses.NotCertified ends made
 
   pub CopiesTexts-holds : CopiesTexts
   CopiesTexts-holds parts status taken written left says =

@@ -26,7 +26,8 @@ use Rattle.vms_trace_parts.specs.Common.{begin_segments, copied_line, copying, p
 use Rattle.vms_trace_parts.proofs.CutLines.{first-none, later-none}
 use Rattle.vms_trace_parts.proofs.LaneLines.{lane_lines, lane_lines-push, segments-blank, segments-boundary}
 use Rattle.vms_trace_parts.proofs.LaneLines.{segments-refused, segments_in-push}
-use Rattle.vms_trace_parts.proofs.PlainWays.{State, part_ended, parts_at, parts_made, plain}
+use Rattle.vms_trace_parts.proofs.PlainWays.{State, plain}
+use Rattle.vms_trace_parts.proofs.UsedParts.{part_ended, parts_at, parts_made}
 
 -- what stands after an element
 drop-after : (k : ℕ) (all : List (List ℕ)) (line : List ℕ) (lines : List (List ℕ)) → drop k all ≡ line ∷ lines
