@@ -6,7 +6,7 @@ use Rattle.vms_stream.specs.declared.statuses.Status.{Status}
 use Rattle.vms_stream.specs.Common.{AnswersPhased, TakesAndWrites, waiting}
 use Rattle.vms_command.specs.Common.{following, shown_given}
 use Rattle.vms_trace_parts.specs.Common.{BeginAfter, CopiesTexts, SaysCopied, TracePart, copying, header_in}
-use Rattle.vms_trace_parts.specs.Common.{header_of, shown_by_copy}
+use Rattle.vms_trace_parts.specs.Common.{header_at, shown_by_copy}
 
 -- what `copy_trace` answers, by the text
 pub TakesAndWrites-copied : {R K : Type 0} → CopiesTexts → (parts : List TracePart) (left : R → Option (List ℕ))
@@ -35,4 +35,4 @@ TakesAndWrites-copied copies parts left read_faults held write_faults src src' o
 pub header_in-begin : (header : Header) (parts : List TracePart) → BeginAfter header parts
     → header_in parts ≡ Some header
 header_in-begin header [] begins = absurd begins
-header_in-begin header (part ∷ parts) begins = ap header_of begins.0
+header_in-begin header (part ∷ parts) begins = ap header_at begins.0

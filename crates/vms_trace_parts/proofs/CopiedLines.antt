@@ -6,7 +6,7 @@ use Rattle.vms_header.specs.Common.{Fault, Opening, spelled_header}
 use Rattle.vms_script.specs.Common.{BoundariesCut, LinesMakeOnePhase}
 use Rattle.vms_stream.specs.Common.{halted, printed, state_after}
 use Rattle.vms_command.specs.Common.{Body, Heading, LinesAbove}
-use Rattle.vms_trace_parts.specs.Common.{TracePart, copied_text, text_under}
+use Rattle.vms_trace_parts.specs.Common.{TracePart, copied_text, copied_under}
 use Rattle.vms_trace_parts.proofs.TextWalks.{Stood, counted, walk}
 use Rattle.vms_trace_parts.proofs.PlainWays.{State, plain}
 use Rattle.vms_trace_parts.proofs.UsedParts.{parts_made}
@@ -30,11 +30,11 @@ module _ (cuts : BoundariesCut) (one : LinesMakeOnePhase) where
   pub stood-copied : (lines : List (List ℕ)) (s : State) (done : List TracePart) (out : List ℕ)
       → Stood lines s done out [] → out ≡ copied_text lines
   stood-copied lines (Heading n stage) done out stood =
-      stood.nothing ∙ ap (λ (found : Result (Header × ℕ) Fault). text_under found lines) stood.read
+      stood.nothing ∙ ap (λ (found : Result (Header × ℕ) Fault). copied_under found lines) stood.read
   stood-copied lines (Body n header above part) done out stood =
       stood.out_is
       ∙ ap (λ (come : LinesAbove). spelled_header header ++ counted header come.lines) stood.come
-      ∙ ap (λ (found : Result (Header × ℕ) Fault). text_under found lines) (sym stood.header_is)
+      ∙ ap (λ (found : Result (Header × ℕ) Fault). copied_under found lines) (sym stood.header_is)
 
   pub copied : (lines : List (List ℕ)) → halted plain first lines ≡ None → printed plain first lines ≡ copied_text lines
   copied lines none = stood-copied lines (state_after plain first lines) (parts_made first lines)

@@ -9,7 +9,7 @@ use Rattle.vms_line.specs.declared.causes.LineCause.{LineCause}
 use Rattle.vms_script.specs.Common.{Between, BoundariesCut, LinesMakeOnePhase, NumberedLine, Segment, kept_items}
 use Rattle.vms_script.specs.Common.{phase_if_any, segments_of, segments_with_item}
 use Rattle.vms_script.specs.Segments.{HaveNoBoundary}
-use Rattle.vms_trace_parts.specs.Common.{TracePart, part_segments, segments_in}
+use Rattle.vms_trace_parts.specs.Common.{TracePart, segments_of_part, segments_of_parts}
 
 -- the numbered line that an item keeps
 abbrev pub lane_line : Item → NumberedLine
@@ -61,9 +61,9 @@ segments-boundary cuts one items n boundary lines =
     ∙ ap (λ (front : List Segment). front ++ Between n boundary ∷ segments_of lines) (segments-lanes one items)
 
 -- the segments of one part more
-pub segments_in-push : (parts : List TracePart) (part : TracePart)
-    → segments_in (parts ++ part ∷ []) ≡ segments_in parts ++ part_segments part
-segments_in-push [] part = append-nil (part_segments part)
-segments_in-push (first ∷ parts) part =
-    ap (λ (more : List Segment). part_segments first ++ more) (segments_in-push parts part)
-    ∙ sym (append_assoc (part_segments first) (segments_in parts) (part_segments part))
+pub segments_of_parts-push : (parts : List TracePart) (part : TracePart)
+    → segments_of_parts (parts ++ part ∷ []) ≡ segments_of_parts parts ++ segments_of_part part
+segments_of_parts-push [] part = append-nil (segments_of_part part)
+segments_of_parts-push (first ∷ parts) part =
+    ap (λ (more : List Segment). segments_of_part first ++ more) (segments_of_parts-push parts part)
+    ∙ sym (append_assoc (segments_of_part first) (segments_of_parts parts) (segments_of_part part))

@@ -22,10 +22,10 @@ use Rattle.vms_stream.specs.Common.{SaysPhased, Short, UsedAtEnd, Waiting, Way, 
 use Rattle.vms_stream.specs.Common.{lines_taken, most_bytes, printed, shown_on, state_after, way_ends, whole_lines}
 use Rattle.vms_command.specs.Common.{Body, Heading, LinesAbove, header_line, shown_given, status_at_end}
 use Rattle.vms_trace_parts.specs.Common.{ArePartsOf, CopiesAboveLimit, CopiesAll, CopiesMost, CopiesTexts}
-use Rattle.vms_trace_parts.specs.Common.{RefusesHeader, SaysCopied, TracePart, begin_segments, copied_text, segments_in}
-use Rattle.vms_trace_parts.specs.Common.{shown_by_copy}
+use Rattle.vms_trace_parts.specs.Common.{RefusesHeader, SaysCopied, TracePart, segments_of_begin, copied_text}
+use Rattle.vms_trace_parts.specs.Common.{segments_of_parts, shown_by_copy}
 use Rattle.vms_trace_parts.proofs.CutLines.{cut}
-use Rattle.vms_trace_parts.proofs.LaneLines.{lane_lines, segments-lanes, segments_in-push}
+use Rattle.vms_trace_parts.proofs.LaneLines.{lane_lines, segments-lanes, segments_of_parts-push}
 use Rattle.vms_trace_parts.proofs.TextWalks.{InBody, Stood}
 use Rattle.vms_trace_parts.proofs.PlainWays.{State, at, behavior, has-on, phased, plain, same}
 use Rattle.vms_trace_parts.proofs.UsedParts.{parts_made, used}
@@ -44,11 +44,11 @@ module _ (cuts : BoundariesCut) (one : LinesMakeOnePhase) (may : SegmentsMayStan
         valid : IsHeader header
         valid = (read_header-writable all header stood.count stood.header_is).is_header
 
-        whole-segments : segments_in (done ++ part ∷ [])
+        whole-segments : segments_of_parts (done ++ part ∷ [])
             ≡ (contents_of header (suc stood.count) (drop stood.count all)).segments
         whole-segments =
-            segments_in-push done part
-            ∙ ap (λ (segments : List Segment). segments_in done ++ (begin_segments part.begin ++ segments))
+            segments_of_parts-push done part
+            ∙ ap (λ (segments : List Segment). segments_of_parts done ++ (segments_of_begin part.begin ++ segments))
             (sym (ap segments_of (append-nil (lane_lines part.items)) ∙ segments-lanes one part.items))
             ∙ stood.segments
 

@@ -22,10 +22,11 @@ use Rattle.vms_stream.specs.Common.{halted, printed, printed_from, state_after}
 use Rattle.vms_command.specs.Common.{Body, Heading, LinesAbove, after_head, come_to, most_lines, nothing_above}
 use Rattle.vms_command.specs.Common.{printed_head, refuses, with_judged}
 use Rattle.vms_trace_parts.specs.Common.{AfterHeader, Begin, BeginAfter, IsWithBoundary, TracePart, WithBoundary}
-use Rattle.vms_trace_parts.specs.Common.{begin_segments, copied_line, copying, part_past, part_segments, segments_in}
+use Rattle.vms_trace_parts.specs.Common.{segments_of_begin, copied_line, copying, part_past, segments_of_part}
+use Rattle.vms_trace_parts.specs.Common.{segments_of_parts}
 use Rattle.vms_trace_parts.proofs.CutLines.{first-none, later-none}
 use Rattle.vms_trace_parts.proofs.LaneLines.{lane_lines, lane_lines-push, segments-blank, segments-boundary}
-use Rattle.vms_trace_parts.proofs.LaneLines.{segments-refused, segments_in-push}
+use Rattle.vms_trace_parts.proofs.LaneLines.{segments-refused, segments_of_parts-push}
 use Rattle.vms_trace_parts.proofs.PlainWays.{State, plain}
 use Rattle.vms_trace_parts.proofs.UsedParts.{part_ended, parts_at, parts_made}
 
@@ -108,7 +109,7 @@ module _ (all : List (List ℕ)) where
     pub come : come_to header above rest ≡ come_to header nothing_above (drop count all)
     pub out_is : out ≡ spelled_header header ++ counted header above.lines
     pub begins : BeginAfter header (done ++ part ∷ [])
-    pub segments : segments_in done ++ (begin_segments part.begin
+    pub segments : segments_of_parts done ++ (segments_of_begin part.begin
         ++ segments_of (lane_lines part.items ++ numbered_lines header above.lines n rest))
         ≡ (contents_of header (suc count) (drop count all)).segments
 
@@ -155,7 +156,7 @@ module _ (all : List (List ℕ)) where
             ∙ sym (append-nil (spelled_header header));
         begins = subst (λ (xs : List TracePart). BeginAfter header (xs ++ part ∷ [])) (sym no)
             (refl, All-nil HasBoundary);
-        segments = ap (λ (xs : List TracePart). segments_in xs
+        segments = ap (λ (xs : List TracePart). segments_of_parts xs
             ++ segments_of (numbered_lines header [] (suc n) rest)) no
             ∙ ap (λ (lines : List (List ℕ)). segments_of (numbered_lines header [] (suc n) lines)) (sym body);
       }
@@ -182,8 +183,8 @@ module _ (all : List (List ℕ)) where
     -- the segments are the same with the part past the line
     stood-with : (j : Result Line LineCause) → judged header above.lines line ≡ j
         → BeginAfter header ((done ++ part_ended j part) ++ part_past n j part ∷ [])
-        → segments_in done ++ (begin_segments part.begin ++ segments_of (lane_lines part.items ++ numbered j))
-        ≡ segments_in (done ++ part_ended j part) ++ (begin_segments (part_past n j part).begin
+        → segments_of_parts done ++ (segments_of_begin part.begin ++ segments_of (lane_lines part.items ++ numbered j))
+        ≡ segments_of_parts (done ++ part_ended j part) ++ (segments_of_begin (part_past n j part).begin
         ++ segments_of (lane_lines (part_past n j part).items
         ++ numbered_lines header (with_judged j above).lines (suc n) rest))
         → InBody header (suc n) (with_judged j above) (part_past n j part) (done ++ part_ended j part)
@@ -197,8 +198,8 @@ module _ (all : List (List ℕ)) where
           ∙ ap (λ (bytes : List ℕ). spelled_header header ++ bytes) (sym (counted-past header above j));
       begins = begins;
       segments = sym same
-          ∙ ap (λ (lines : List NumberedLine). segments_in done
-          ++ (begin_segments part.begin ++ segments_of (lane_lines part.items ++ lines))) (sym (with-judged j is))
+          ∙ ap (λ (lines : List NumberedLine). segments_of_parts done
+          ++ (segments_of_begin part.begin ++ segments_of (lane_lines part.items ++ lines))) (sym (with-judged j is))
           ∙ stood.segments;
     }
 
@@ -219,9 +220,9 @@ module _ (all : List (List ℕ)) where
         stood-with j is
         (subst (λ (xs : List TracePart). BeginAfter header (xs ++ part_past n j part ∷ [])) (sym no)
         (begin-same header done part (part_past n j part) same_begin stood.begins))
-        (ap₂ (λ (b : Begin) (segments : List Segment). segments_in done ++ (begin_segments b ++ segments))
+        (ap₂ (λ (b : Begin) (segments : List Segment). segments_of_parts done ++ (segments_of_begin b ++ segments))
         (sym same_begin) same
-        ∙ ap (λ (xs : List TracePart). segments_in xs ++ (begin_segments (part_past n j part).begin
+        ∙ ap (λ (xs : List TracePart). segments_of_parts xs ++ (segments_of_begin (part_past n j part).begin
         ++ segments_of (lane_lines (part_past n j part).items
         ++ numbered_lines header (with_judged j above).lines (suc n) rest))) (sym no))
 
@@ -238,12 +239,12 @@ module _ (all : List (List ℕ)) where
           let next : TracePart = record { begin = WithBoundary n b; items = [] } in
           let later : List Segment = segments_of (numbered_lines header (Boundary b ∷ above.lines) (suc n) rest) in
           stood-with (Ok (Boundary b)) is (begin-next header (done ++ part ∷ []) next tt stood.begins)
-          (ap (λ (segments : List Segment). segments_in done ++ (begin_segments part.begin ++ segments))
+          (ap (λ (segments : List Segment). segments_of_parts done ++ (segments_of_begin part.begin ++ segments))
           (segments-boundary cuts one part.items n b (numbered_lines header (Boundary b ∷ above.lines) (suc n) rest))
-          ∙ ap (λ (segments : List Segment). segments_in done ++ segments)
-          (sym (append_assoc (begin_segments part.begin) (phase_if_any part.items) (Between n b ∷ later)))
-          ∙ sym (append_assoc (segments_in done) (part_segments part) (Between n b ∷ later))
-          ∙ ap (λ (segments : List Segment). segments ++ Between n b ∷ later) (sym (segments_in-push done part)))
+          ∙ ap (λ (segments : List Segment). segments_of_parts done ++ segments)
+          (sym (append_assoc (segments_of_begin part.begin) (phase_if_any part.items) (Between n b ∷ later)))
+          ∙ sym (append_assoc (segments_of_parts done) (segments_of_part part) (Between n b ∷ later))
+          ∙ ap (λ (segments : List Segment). segments ++ Between n b ∷ later) (sym (segments_of_parts-push done part)))
 
   -- past any line that doesn't stop the copy
   module _ (cuts : BoundariesCut) (one : LinesMakeOnePhase) where

@@ -16,19 +16,19 @@ use Rattle.vms_stream.specs.declared.statuses.Status.TheVariants as statuses
 use Rattle.vms_stream.specs.Common.{AreLinesTaken, SaysPhased, halted, lines_taken, most_bytes, plainly, waiting}
 use Rattle.vms_command.specs.Common.{come_to, following, header_line, nothing_above, shown_given}
 use Rattle.vms_trace_parts.specs.Copying.{copying, shown_by_copy}
-use Rattle.vms_trace_parts.specs.Parts.{BeginAfter, TracePart, segments_in}
+use Rattle.vms_trace_parts.specs.Parts.{BeginAfter, TracePart, segments_of_parts}
 
 -- the lines of a body that count, each in its one spelling
 abbrev pub counted_text : Header → List (List ℕ) → List ℕ
 counted_text header body = flat_map (spelled_line header) (reverse (come_to header nothing_above body).lines)
 
 -- the copy of lines: the header and the lines of the body that count, or nothing where they have no whole header
-abbrev pub text_under : Result (Header × ℕ) Fault → List (List ℕ) → List ℕ
-text_under (Err fault) lines = []
-text_under (Ok (header, count)) lines = spelled_header header ++ counted_text header (drop count lines)
+abbrev pub copied_under : Result (Header × ℕ) Fault → List (List ℕ) → List ℕ
+copied_under (Err fault) lines = []
+copied_under (Ok (header, count)) lines = spelled_header header ++ counted_text header (drop count lines)
 
 abbrev pub copied_text : List (List ℕ) → List ℕ
-copied_text lines = text_under (read_header lines) lines
+copied_text lines = copied_under (read_header lines) lines
 
 -- these are the parts of a text with these lines: the first begins after its header, and all together have the segments
 -- of its body, of which each may stand where it does
@@ -38,8 +38,8 @@ pub record ArePartsOf (lines : List (List ℕ)) (parts : List TracePart) (refuse
   pub header_is : read_header lines ≡ Ok (header, count)
   pub valid : IsHeader header
   pub begin : BeginAfter header parts
-  pub segments : segments_in parts ≡ (contents_of header (suc count) (drop count lines)).segments
-  pub stand : AreSegments header first_start (segments_in parts)
+  pub segments : segments_of_parts parts ≡ (contents_of header (suc count) (drop count lines)).segments
+  pub stand : AreSegments header first_start (segments_of_parts parts)
   -- so many lines of the body are refused
   pub refused_are : refused ≡ (come_to header nothing_above (drop count lines)).refused
 
