@@ -69,7 +69,7 @@ module _ {S K : Type 0} (left : S → Option (List ℕ)) (read_faults : S → �
         history = history;
         written_is = refl;
         line_by_line = says;
-        by_text = copies parts ended copied.answers.taken copied.answers.written (IsAtEnd (left src')) says;
+        by_text = copies parts ended copied.answers.taken copied.answers.written (left src') says;
         follows = follows;
       };
       reads = reads;

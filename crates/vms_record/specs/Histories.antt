@@ -9,7 +9,7 @@ use Rattle.vms_script.specs.Common.{AreSegments}
 use Rattle.vms_stream.specs.Common.{FaultsOfSink}
 use Rattle.vms_stream.specs.declared.statuses.Status.{Status}
 use Rattle.vms_stream.specs.declared.statuses.Status.TheVariants.{Done, Memory, Refused, WriteFault}
-use Rattle.vms_trace_parts.specs.Common.{TracePart, header_in, segments_in}
+use Rattle.vms_trace_parts.specs.Common.{TracePart, header_in, segments_of_parts}
 use Rattle.vms_world.specs.Common.{Header, IsHeader, Phase, Segment, Start, State, first_start}
 use Rattle.vms_written_lines.specs.Spelling.{history_line}
 
@@ -72,14 +72,14 @@ pub record AreParts (parts : List TracePart) : Type 0 where
   pub header : Header
   pub header_is : header_in parts ≡ Some header
   pub valid : IsHeader header
-  pub stand : AreSegments header first_start (segments_in parts)
+  pub stand : AreSegments header first_start (segments_of_parts parts)
 
 -- the history of these parts: its first line, and the lines of their recorded history
 pub record IsHistoryOf (parts : List TracePart) (text : List ℕ) : Type 0 where
   pub header : Header
   pub header_is : header_in parts ≡ Some header
   pub hs : List History
-  pub recorded : IsRecordedHistory header (segments_in parts) hs
+  pub recorded : IsRecordedHistory header (segments_of_parts parts) hs
   pub text_is : text ≡ history_line ++ history_lines hs
 
 -- the first line, and what begins the lines of their recorded history
@@ -88,7 +88,7 @@ pub record IsWithinHistory (parts : List TracePart) (text : List ℕ) : Type 0 w
   pub header_is : header_in parts ≡ Some header
   pub later : List ℕ
   pub text_is : text ≡ history_line ++ later
-  pub stops : StopsWithin header (segments_in parts) later
+  pub stops : StopsWithin header (segments_of_parts parts) later
 
 -- this begins the history of these parts
 abbrev pub BeginsHistoryOf : List TracePart → List ℕ → Type 0

@@ -4,7 +4,7 @@ ghost use Rattle.vms_world.specs.Common.{IsHeader, Segment, Start, State as Stat
 ghost use Rattle.vms_script.specs.Common.{AreSegments};
 ghost use Rattle.vms_stream.specs.Common.{CountsWrites};
 ghost use Rattle.vms_recording.specs.Common.{IsRecording};
-ghost use Rattle.vms_trace_parts.specs.Parts.{part_of, part_segments, parts_of, segments_in};
+ghost use Rattle.vms_trace_parts.specs.Parts.{part_of, segments_of_part, parts_of, segments_of_parts};
 ghost use Rattle.vms_record.specs.Histories.{AreParts, MayRecordPart, RecordsPart, RecordsParts, RecordsSegments};
 ghost use Rattle.vms_record.specs.Histories.{WritesFirstLine};
 
@@ -54,8 +54,8 @@ fn write_parts<K: Sink>(
     out: &mut K,
 ) -> Result<(), Status>
     requires header { IsHeader header.now }
-    requires stand { AreSegments header.now first_start (segments_in (map part_of parts.now)) }
-    ensures records { RecordsSegments header.now (segments_in (map part_of parts.now)) (K.written out.old)
+    requires stand { AreSegments header.now first_start (segments_of_parts (map part_of parts.now)) }
+    ensures records { RecordsSegments header.now (segments_of_parts (map part_of parts.now)) (K.written out.old)
         (K.written out.new) result }
     ensures cause { IfErr result (λ status. (status ≡ Status.Memory) ⊎ (status ≡ Status.WriteFault)) }
     ensures counts { CountsWrites K.written K.faults result out.old out.new }
@@ -75,11 +75,11 @@ fn write_part<K: Sink>(
     out: &mut K,
 ) -> Result<(), Status>
     requires header { IsHeader header.now }
-    requires recording { MayRecordPart header.now (part_segments (part_of part.now)) writer.old }
+    requires recording { MayRecordPart header.now (segments_of_part (part_of part.now)) writer.old }
     ensures records { (segments : List Segment) (hs : List History) (start : Start) (s : StateOf) (written : List ℕ)
         (after : List Segment) → IsRecording header.now segments hs start s written writer.old →
-        AreSegments header.now start (part_segments (part_of part.now) ++ after) →
-        RecordsPart header.now segments (part_segments (part_of part.now)) after written writer.new
+        AreSegments header.now start (segments_of_part (part_of part.now) ++ after) →
+        RecordsPart header.now segments (segments_of_part (part_of part.now)) after written writer.new
         (K.written out.old) (K.written out.new) result }
     ensures cause { IfErr result (λ status. (status ≡ Status.Memory) ⊎ (status ≡ Status.WriteFault)) }
     ensures counts { CountsWrites K.written K.faults result out.old out.new }
