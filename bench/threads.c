@@ -1,6 +1,7 @@
-/* Counts the threads that a program starts and those that have not ended when it exits, and the most that ran at once:
- * preloaded, it stands before pthread_create and _exit. At the end it writes `started S left L most M` to the file that
- * THREADS_FILE names. bench/threads.py builds and uses it. */
+/* Counts the threads that a program starts and those that have not ended a second after it exits, and the most that ran
+ * at once: preloaded, it stands before pthread_create and _exit. A thread that is told to end has to be on its way out
+ * only, since a scope waits for what its threads run and not for the threads. At the end it writes
+ * `started S left L most M` to the file that THREADS_FILE names. bench/threads.py builds and uses it. */
 #define _GNU_SOURCE
 #include <dlfcn.h>
 #include <fcntl.h>
@@ -47,6 +48,7 @@ static void tell(void) {
     const char *name = getenv("THREADS_FILE");
     int file = name ? open(name, O_WRONLY | O_CREAT | O_TRUNC, 0600) : -1;
     if (file < 0) return;
+    for (int looks = 0; looks < 1000 && atomic_load(&running); looks++) usleep(1000);
     dprintf(file, "started %d left %d most %d\n", atomic_load(&started), atomic_load(&running), atomic_load(&most));
     close(file);
 }

@@ -63,13 +63,20 @@ def lone_lanes(counter):
 
 
 def lanes_side_by_side(counter):
-    """Of a phase whose lanes are several one lane runs on the thread that is there, and each other on its own."""
+    """Of a phase whose lanes are several one lane runs on the thread that is there, and each other on one that stands,
+    which is started once."""
     started, left, most = counter.run(text(["c0", "c1", "c2", "k"]), DONE)
     expect("threads started and left", (started, left), (3, 0))
-    started, left, most = counter.run(text(["c0", "c1"], ["c2", "c3", "k"], ["c1"]), DONE)
-    expect("threads started and left", (started, left), (3, 0))
-    if most > 2:
-        raise Wrong(f"{most} threads ran at once, of two phases")
+    started, left, most = counter.run(text(["c0", "c1"], ["c2", "c3", "k"], ["c1"], ["c0", "c1", "k"]), DONE)
+    expect("threads started and left", (started, left), (2, 0))
+    expect("threads at once", most, 2)
+
+
+def long_phases(counter):
+    """The lanes of a phase of more than 16,384 lines run on threads that are started for it."""
+    long = ["c0", "c1"] * 3000
+    started, left, most = counter.run(text(["c0", "c1"], long, ["c0", "c1"]), DONE)
+    expect("threads started and left", (started, left), (2, 0))
 
 
 def failed_writes(counter):
@@ -83,7 +90,7 @@ def failed_writes(counter):
 def passed_limits(counter):
     """A run that has too many phases leaves no thread."""
     started, left, most = counter.run(text(*[["c0", "c1"]] * 10001), TOO_LONG)
-    expect("threads started and left", (started, left), (10000, 0))
+    expect("threads started and left", (started, left), (1, 0))
 
 
 def want_of_memory(counter):
@@ -113,7 +120,7 @@ def lanes_of_groups(counter):
     expect("threads left", left, 0)
 
 
-CASES = [lone_lanes, lanes_side_by_side, failed_writes, passed_limits, want_of_memory, lanes_of_groups]
+CASES = [lone_lanes, lanes_side_by_side, long_phases, failed_writes, passed_limits, want_of_memory, lanes_of_groups]
 
 
 def main(names):
