@@ -1,9 +1,11 @@
 /* Counts the threads that a program starts and those that have not ended a second after it exits, and the most that ran
  * at once: preloaded, it stands before pthread_create and _exit. A thread that is told to end has to be on its way out
- * only, since a scope waits for what its threads run and not for the threads. At the end it writes
- * `started S left L most M` to the file that THREADS_FILE names. bench/threads.py builds and uses it. */
+ * only, since a scope waits for what its threads run and not for the threads. Where THREADS_MOST has a number, no
+ * thread is made once so many were started. At the end it writes `started S left L most M` to the file that
+ * THREADS_FILE names. bench/threads.py builds and uses it. */
 #define _GNU_SOURCE
 #include <dlfcn.h>
+#include <errno.h>
 #include <fcntl.h>
 #include <pthread.h>
 #include <stdatomic.h>
@@ -28,6 +30,8 @@ static void *counted(void *given) {
 
 int pthread_create(pthread_t *thread, const pthread_attr_t *attr, void *(*run)(void *), void *argument) {
     int (*create)(pthread_t *, const pthread_attr_t *, void *(*)(void *), void *) = dlsym(RTLD_NEXT, "pthread_create");
+    const char *limit = getenv("THREADS_MOST");
+    if (limit && atomic_load(&started) >= atoi(limit)) return EAGAIN;
     struct job *job = malloc(sizeof *job);
     if (!create || !job) abort();
     *job = (struct job){run, argument};
