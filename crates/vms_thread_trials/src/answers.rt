@@ -1,5 +1,6 @@
 ghost use Rattle.vms_calls.specs.Common.{IsThresholdRule};
 
+use crate::machines::read_header;
 use std::alloc::Global;
 use std::sync::atomic::{AtomicU64, Ordering};
 use std::test::Fail;
@@ -8,7 +9,6 @@ use vms_base::{CounterId, CpuId, PlaceId, WaterMark, ZoneSize};
 use vms_calc::{Rule, Rules, normal_threshold, pressure_threshold};
 use vms_calls::Verdict;
 use vms_counters::{CallError, Counters, Handle};
-use vms_header::parse_header;
 
 /// Two CPUs and two zones of a node. The first zone keeps a 256th of the second one's pages, 14,850, from requests that
 /// may use both.
@@ -67,11 +67,7 @@ fn opened_by<N: Rule, P: Rule>(alloc: Global, normal: N, pressure: P) -> Result<
     requires normal { IsThresholdRule (N.accepts normal) (N.answers normal) }
     requires pressure { IsThresholdRule (P.accepts pressure) (P.answers pressure) }
 {
-    let text = TWO_ZONES.as_bytes();
-    if text.len() > 1 << 26 {
-        return Err(Fail::new("no header is as long as this text"));
-    }
-    let (header, _lines, _bytes) = parse_header(alloc, text)?;
+    let header = read_header(alloc, TWO_ZONES)?;
     Ok(Counters::open(alloc, header, &Rules::make(normal, pressure))?)
 }
 
