@@ -5,3 +5,5 @@
 mod answers;
 #[cfg(test)]
 mod machines;
+#[cfg(test)]
+mod totals;
