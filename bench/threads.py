@@ -39,12 +39,14 @@ class Counter:
         subprocess.run(["cc", "-O2", "-Wall", "-Wextra", "-Werror", "-shared", "-fPIC", "-o", self.library,
                         os.path.join(TOP, "bench", "threads.c"), "-ldl", "-pthread"], check=True)
 
-    def run(self, trace, status, out=subprocess.DEVNULL, prepare=None, command="run"):
-        """The threads that a run of a trace started, those that it left, and the most at once."""
+    def run(self, trace, status, out=subprocess.DEVNULL, prepare=None, command="run", limit=None):
+        """The threads that a run of a trace started, those that it left, and the most at once. No more than `limit` can
+        be made."""
         if os.path.exists(self.told):
             os.remove(self.told)
         done = subprocess.run([self.program, command], input=trace, stdout=out, timeout=60, preexec_fn=prepare,
-                              env={"LD_PRELOAD": self.library, "THREADS_FILE": self.told})
+                              env={"LD_PRELOAD": self.library, "THREADS_FILE": self.told}
+                              | ({} if limit is None else {"THREADS_MOST": str(limit)}))
         if done.returncode != status:
             raise Wrong(f"status {done.returncode} where {status} is expected")
         with open(self.told) as file:
@@ -63,13 +65,31 @@ def lone_lanes(counter):
 
 
 def lanes_side_by_side(counter):
-    """Of a phase whose lanes are several one lane runs on the thread that is there, and each other on its own."""
+    """Of a phase whose lanes are several one lane runs on the thread that is there, and each other on one that stands,
+    which is started once."""
     started, left, most = counter.run(text(["c0", "c1", "c2", "k"]), DONE)
     expect("threads started and left", (started, left), (3, 0))
-    started, left, most = counter.run(text(["c0", "c1"], ["c2", "c3", "k"], ["c1"]), DONE)
-    expect("threads started and left", (started, left), (3, 0))
-    if most > 2:
-        raise Wrong(f"{most} threads ran at once, of two phases")
+    started, left, most = counter.run(text(["c0", "c1"], ["c2", "c3", "k"], ["c1"], ["c0", "c1", "k"]), DONE)
+    expect("threads started and left", (started, left), (2, 0))
+    expect("threads at once", most, 2)
+
+
+def long_phases(counter):
+    """The lanes of a phase of more than 16,384 lines run on threads that are started for it."""
+    long = ["c0", "c1"] * 3000
+    started, left, most = counter.run(text(["c0", "c1"], long, ["c0", "c1"]), DONE)
+    expect("threads started and left", (started, left), (2, 0))
+
+
+def want_of_threads(counter):
+    """Where no thread or too few can be made, the lanes run all the same, and what they changed is there."""
+    trace = text(["c0", "c1", "c2"], ["c1", "c2", "c3"], ["c0", "c1", "c2", "c3"]) + b"report totals\n"
+    for limit in (0, 1, 2):
+        with tempfile.TemporaryFile() as out:
+            started, left, most = counter.run(trace, DONE, out, limit=limit)
+            out.seek(0)
+            expect("the total", b"\n0 Normal nr_free_pages 10030\n" in out.read(), True)
+        expect("threads started and left", (started, left), (limit, 0))
 
 
 def failed_writes(counter):
@@ -83,7 +103,7 @@ def failed_writes(counter):
 def passed_limits(counter):
     """A run that has too many phases leaves no thread."""
     started, left, most = counter.run(text(*[["c0", "c1"]] * 10001), TOO_LONG)
-    expect("threads started and left", (started, left), (10000, 0))
+    expect("threads started and left", (started, left), (1, 0))
 
 
 def want_of_memory(counter):
@@ -113,7 +133,8 @@ def lanes_of_groups(counter):
     expect("threads left", left, 0)
 
 
-CASES = [lone_lanes, lanes_side_by_side, failed_writes, passed_limits, want_of_memory, lanes_of_groups]
+CASES = [lone_lanes, lanes_side_by_side, long_phases, want_of_threads, failed_writes, passed_limits, want_of_memory,
+         lanes_of_groups]
 
 
 def main(names):

@@ -1,7 +1,9 @@
-/* Page counters of Linux's mm/vmstat.c, from C.
+/* Counters of Linux's mm/vmstat.c and lib/percpu_counter.c, from C: of pages, of events, and percpu counters.
  *
  * A program opens counters and begins a handle for each CPU that it has, a thread say. A handle changes and reads the
- * counters of its CPU; it may be passed to another thread. Nothing waits. All pages have 4096 bytes.
+ * counters of its CPU; it may be passed to another thread. Nothing waits: the functions with `try` in their names
+ * answer VOZHKELL_HELD where others hold the lock of a percpu counter, which they do for a few steps. All pages have
+ * 4096 bytes.
  *
  * Statuses. Every function answers 0, or one of the negative numbers below. Results are written only where it answers
  * 0, but for the line of vozhkell_open. Where it answers another number nothing has changed.
@@ -63,7 +65,7 @@ enum vozhkell_status {
     VOZHKELL_NO_NODE = -13,
     VOZHKELL_NO_ZONE_INDEX = -14,
     VOZHKELL_NO_ORDER = -15,
-    /* The CPU would have changed the counter by more than 2^48 pages in absolute sum. */
+    /* The CPU would have changed the counter by more than 2^48 in absolute sum: by pages, counts or amounts. */
     VOZHKELL_TOO_MUCH = -16,
     /* No watermark has the number: it isn't one of enum vozhkell_mark. */
     VOZHKELL_NO_MARK = -17,
@@ -90,8 +92,15 @@ enum vozhkell_status {
     VOZHKELL_HEADER_LINE_TOO_LONG = -34,
     VOZHKELL_HEADER_DOUBLED_ITEM = -35,
     VOZHKELL_HEADER_TOO_MANY_ITEMS = -36,
-    /* A threshold was set 2,000,000 times. No call of this file sets one yet. */
-    VOZHKELL_TOO_OFTEN = -37
+    /* A threshold or a drift mark was set 2,000,000 times. */
+    VOZHKELL_TOO_OFTEN = -37,
+    /* Nothing has the number: an event (0 to 7), a percpu counter that the header declares. */
+    VOZHKELL_NO_EVENT = -38,
+    VOZHKELL_NO_PERCPU = -39,
+    /* A limit is further from 0 than 2^60. */
+    VOZHKELL_TOO_FAR = -40,
+    /* Others hold the lock of the percpu counter. Nothing has changed: try again. */
+    VOZHKELL_HELD = -41
 };
 
 /* The watermarks of a zone. */
@@ -127,6 +136,28 @@ typedef struct vozhkell_answer {
     uint32_t fast;
 } vozhkell_answer;
 
+/* What a test for a free block answers. */
+typedef struct vozhkell_order_answer {
+    /* The free pages that it rests on. */
+    uint64_t free;
+    /* 1 where the zone passed, else 0. */
+    uint32_t yes;
+    /* 1 where no snapshot of the free pages was made, else 0. */
+    uint32_t fast;
+    /* The order of the free block that was found, and UINT32_MAX where none was. */
+    uint32_t order;
+} vozhkell_order_answer;
+
+/* What a balance test of a node, or a turn of kswapd, answers. */
+typedef struct vozhkell_balance {
+    /* The free pages that the test of the zone rests on which passed, and 0 where none did. */
+    uint64_t free;
+    /* 1 where the node is balanced, else 0. */
+    uint32_t yes;
+    /* The first zone that passed, and 0 where none did. */
+    uint32_t zone;
+} vozhkell_balance;
+
 /* The functions of the library. A variable is passed by its first field. */
 int32_t vozhkell_c_open(struct vozhkell_memory **counters, const unsigned char *text, size_t length, uint32_t *line);
 int32_t vozhkell_c_close(struct vozhkell_memory **counters);
@@ -149,7 +180,27 @@ int32_t vozhkell_c_system_value(struct vozhkell_memory **handle, uint32_t item, 
 int32_t vozhkell_c_snapshot(struct vozhkell_memory **handle, uint32_t counter, uint64_t *pages);
 int32_t vozhkell_c_watermark_ok(struct vozhkell_memory **handle, uint32_t zone, uint32_t mark, uint32_t most,
                                 vozhkell_answer *answer);
+int32_t vozhkell_c_zone_ok(struct vozhkell_memory **handle, uint32_t zone, uint32_t mark, uint32_t order, uint32_t most,
+                           vozhkell_order_answer *answer);
+int32_t vozhkell_c_balanced(struct vozhkell_memory **handle, uint32_t node, uint32_t order, uint32_t most,
+                            vozhkell_balance *answer);
+int32_t vozhkell_c_count_event(struct vozhkell_memory **handle, uint32_t event, uint64_t times);
+int32_t vozhkell_c_events(struct vozhkell_memory **handle, uint32_t event, uint64_t *times);
+int32_t vozhkell_c_percpu_read(struct vozhkell_memory **handle, uint32_t counter, int64_t *value);
+int32_t vozhkell_c_try_percpu_add(struct vozhkell_memory **handle, uint32_t counter, int64_t amount);
+int32_t vozhkell_c_try_percpu_limited_add(struct vozhkell_memory **handle, uint32_t counter, int64_t limit,
+                                          int64_t amount, uint32_t *yes);
+int32_t vozhkell_c_try_percpu_sync(struct vozhkell_memory **handle, uint32_t counter);
+int32_t vozhkell_c_try_percpu_sum(struct vozhkell_memory **handle, uint32_t counter, int64_t *value);
 int32_t vozhkell_c_control_fold(struct vozhkell_memory **control, uint32_t cpu);
+int32_t vozhkell_c_control_value(struct vozhkell_memory **control, uint32_t counter, uint64_t *pages);
+int32_t vozhkell_c_control_snapshot(struct vozhkell_memory **control, uint32_t counter, uint64_t *pages);
+int32_t vozhkell_c_control_events(struct vozhkell_memory **control, uint32_t event, uint64_t *times);
+int32_t vozhkell_c_set_pressure(struct vozhkell_memory **control, uint32_t node);
+int32_t vozhkell_c_set_normal(struct vozhkell_memory **control, uint32_t node);
+int32_t vozhkell_c_refresh(struct vozhkell_memory **control);
+int32_t vozhkell_c_kswapd_turn(struct vozhkell_memory **control, uint32_t node, uint32_t order, uint32_t most,
+                               vozhkell_balance *answer);
 
 /* Opens counters, with the machine that the header of a trace says (docs/FORMATS.md, "The header"; from `vmtrace` to
  * `go`, what stands below is ignored). Each counter has its `base`, every CPU is online, and thresholds are those of
@@ -294,6 +345,125 @@ static inline int vozhkell_watermark_ok(vozhkell_handle *handle, uint32_t zone, 
                                         vozhkell_answer *answer)
 {
     return handle && answer ? vozhkell_c_watermark_ok(&handle->at, zone, (uint32_t)mark, most, answer) : VOZHKELL_NULL;
+}
+
+/* Tests whether a zone has more free pages than a watermark asks for and, above order 0, a free block of 2^order pages
+ * or more (__zone_watermark_ok): blocks are looked for in the zone items area1 to area10 that the header declares. What
+ * is true of the free pages is as of vozhkell_watermark_ok. VOZHKELL_NO_MARK, VOZHKELL_NO_ZONE, VOZHKELL_NO_ORDER,
+ * VOZHKELL_NO_ZONE_INDEX. */
+static inline int vozhkell_zone_ok(vozhkell_handle *handle, uint32_t zone, enum vozhkell_mark mark, uint32_t order,
+                                   uint32_t most, vozhkell_order_answer *answer)
+{
+    return handle && answer ? vozhkell_c_zone_ok(&handle->at, zone, (uint32_t)mark, order, most, answer)
+                            : VOZHKELL_NULL;
+}
+
+/* Tests whether a node is balanced for an order (pgdat_balanced): its zones up to the zone index `most` are tested in
+ * order by their high watermark, up to the first that passes. VOZHKELL_NO_NODE, VOZHKELL_NO_ORDER,
+ * VOZHKELL_NO_ZONE_INDEX. */
+static inline int vozhkell_balanced(vozhkell_handle *handle, uint32_t node, uint32_t order, uint32_t most,
+                                    vozhkell_balance *answer)
+{
+    return handle && answer ? vozhkell_c_balanced(&handle->at, node, order, most, answer) : VOZHKELL_NULL;
+}
+
+/* Counts an event (0 to 7, in the order of docs/FORMATS.md) a number of times on the handle's CPU (count_vm_events).
+ * VOZHKELL_NO_EVENT, VOZHKELL_TOO_MUCH. */
+static inline int vozhkell_count_event(vozhkell_handle *handle, uint32_t event, uint64_t times)
+{
+    return handle ? vozhkell_c_count_event(&handle->at, event, times) : VOZHKELL_NULL;
+}
+
+/* How often the CPUs have counted an event (all_vm_events): at least as often as when the call began, and at most as
+ * often as when it ended. VOZHKELL_NO_EVENT. */
+static inline int vozhkell_events(vozhkell_handle *handle, uint32_t event, uint64_t *times)
+{
+    return handle && times ? vozhkell_c_events(&handle->at, event, times) : VOZHKELL_NULL;
+}
+
+/* The shared part of a percpu counter (percpu_counter_read): the true total, less at most a batch for each CPU and what
+ * calls were moving. Percpu counters have the numbers from 0 in the order in which the header declares them.
+ * VOZHKELL_NO_PERCPU. */
+static inline int vozhkell_percpu_read(vozhkell_handle *handle, uint32_t counter, int64_t *value)
+{
+    return handle && value ? vozhkell_c_percpu_read(&handle->at, counter, value) : VOZHKELL_NULL;
+}
+
+/* Adds an amount to a percpu counter on the handle's CPU (percpu_counter_add_batch). VOZHKELL_NO_PERCPU,
+ * VOZHKELL_TOO_MUCH, VOZHKELL_HELD. */
+static inline int vozhkell_try_percpu_add(vozhkell_handle *handle, uint32_t counter, int64_t amount)
+{
+    return handle ? vozhkell_c_try_percpu_add(&handle->at, counter, amount) : VOZHKELL_NULL;
+}
+
+/* Adds an amount to a percpu counter where the counter then keeps a limit: the most for a positive amount, the least
+ * for a negative one. `yes` is 1 where it does, else 0; either way the amount's size counts for VOZHKELL_TOO_MUCH. A 1
+ * keeps the limit if nobody else adds meanwhile; others can push the total past it by at most what they add meanwhile
+ * and carried. VOZHKELL_NO_PERCPU, VOZHKELL_TOO_FAR, VOZHKELL_TOO_MUCH, VOZHKELL_HELD. */
+static inline int vozhkell_try_percpu_limited_add(vozhkell_handle *handle, uint32_t counter, int64_t limit,
+                                                  int64_t amount, uint32_t *yes)
+{
+    return handle && yes ? vozhkell_c_try_percpu_limited_add(&handle->at, counter, limit, amount, yes) : VOZHKELL_NULL;
+}
+
+/* Moves what the handle's CPU holds of a percpu counter to its shared part (percpu_counter_sync). VOZHKELL_NO_PERCPU,
+ * VOZHKELL_HELD. */
+static inline int vozhkell_try_percpu_sync(vozhkell_handle *handle, uint32_t counter)
+{
+    return handle ? vozhkell_c_try_percpu_sync(&handle->at, counter) : VOZHKELL_NULL;
+}
+
+/* The shared part of a percpu counter and what all CPUs hold (__percpu_counter_sum): the true total when the lock was
+ * won, and what each CPU added to its part from there until the call loaded it. VOZHKELL_NO_PERCPU, VOZHKELL_HELD. */
+static inline int vozhkell_try_percpu_sum(vozhkell_handle *handle, uint32_t counter, int64_t *value)
+{
+    return handle && value ? vozhkell_c_try_percpu_sum(&handle->at, counter, value) : VOZHKELL_NULL;
+}
+
+/* The value and a snapshot of a counter, and how often an event was counted, by the control handle: as
+ * vozhkell_value, vozhkell_snapshot and vozhkell_events. */
+static inline int vozhkell_control_value(vozhkell_control *control, uint32_t counter, uint64_t *pages)
+{
+    return control && pages ? vozhkell_c_control_value(&control->at, counter, pages) : VOZHKELL_NULL;
+}
+
+static inline int vozhkell_control_snapshot(vozhkell_control *control, uint32_t counter, uint64_t *pages)
+{
+    return control && pages ? vozhkell_c_control_snapshot(&control->at, counter, pages) : VOZHKELL_NULL;
+}
+
+static inline int vozhkell_control_events(vozhkell_control *control, uint32_t event, uint64_t *times)
+{
+    return control && times ? vozhkell_c_control_events(&control->at, event, times) : VOZHKELL_NULL;
+}
+
+/* Sets the thresholds of a node's zones to those under memory pressure, or back to the normal ones
+ * (set_pgdat_percpu_threshold with calculate_pressure_threshold or calculate_normal_threshold), under drift marks that
+ * cover them. A zone whose mark is 0 keeps its thresholds. VOZHKELL_NO_NODE, VOZHKELL_TOO_OFTEN. */
+static inline int vozhkell_set_pressure(vozhkell_control *control, uint32_t node)
+{
+    return control ? vozhkell_c_set_pressure(&control->at, node) : VOZHKELL_NULL;
+}
+
+static inline int vozhkell_set_normal(vozhkell_control *control, uint32_t node)
+{
+    return control ? vozhkell_c_set_normal(&control->at, node) : VOZHKELL_NULL;
+}
+
+/* Gives each zone its normal threshold, under a drift mark that covers it, and each node the largest of its zones
+ * (refresh_zone_stat_thresholds). VOZHKELL_TOO_OFTEN. */
+static inline int vozhkell_refresh(vozhkell_control *control)
+{
+    return control ? vozhkell_c_refresh(&control->at) : VOZHKELL_NULL;
+}
+
+/* Takes a turn of kswapd on a node (kswapd_try_to_sleep): it sets pressure thresholds, tests whether the node is
+ * balanced, and sets normal thresholds if it is. VOZHKELL_NO_NODE, VOZHKELL_NO_ORDER, VOZHKELL_NO_ZONE_INDEX,
+ * VOZHKELL_TOO_OFTEN. */
+static inline int vozhkell_kswapd_turn(vozhkell_control *control, uint32_t node, uint32_t order, uint32_t most,
+                                       vozhkell_balance *answer)
+{
+    return control && answer ? vozhkell_c_kswapd_turn(&control->at, node, order, most, answer) : VOZHKELL_NULL;
 }
 
 /* Folds a CPU by the control handle. VOZHKELL_NO_CPU. */

@@ -12,10 +12,16 @@ static const char MACHINE[] = "vmtrace 2\n"
                               "zone 0 DMA 4096 16 20 24\n"
                               "zone 0 Normal 262144 100 125 150\n"
                               "base 0 Normal nr_free_pages 200\n"
+                              "counter files 32\n"
                               "go\n";
 
 /* Counters by number: a place has 16, the places are zone DMA, zone Normal, node 0. */
 enum { FREE = 16, LAST = 47, NORMAL = 1, NODE = 2 };
+
+/* The last event, and the percpu counter with its batch. */
+enum { LAST_EVENT = 7, FILES = 0, BATCH = 32 };
+
+static const int64_t FARTHEST = INT64_C(1) << 60;
 
 static int failures;
 
@@ -88,14 +94,17 @@ static void refuses_headers(void)
 }
 
 /* Null pointers, and variables that hold nothing. */
-static void refuses_nulls(vozhkell *counters, vozhkell_handle *handle)
+static void refuses_nulls(vozhkell *counters, vozhkell_handle *handle, vozhkell_control *control)
 {
     vozhkell no_counters = VOZHKELL_NONE;
     vozhkell_handle none = VOZHKELL_NONE;
     vozhkell_control no_control = VOZHKELL_NONE;
     vozhkell_answer answer = {0};
+    vozhkell_order_answer order = {0};
+    vozhkell_balance balance = {0};
     uint32_t number = 77;
     uint64_t pages = 77;
+    int64_t value = 77;
 
     EXPECT(vozhkell_open(NULL, MACHINE, 1, &number), VOZHKELL_NULL);
     EXPECT(vozhkell_open(&no_counters, NULL, 0, &number), VOZHKELL_NULL);
@@ -148,10 +157,53 @@ static void refuses_nulls(vozhkell *counters, vozhkell_handle *handle)
     EXPECT(vozhkell_watermark_ok(NULL, NORMAL, VOZHKELL_MIN, 2, &answer), VOZHKELL_NULL);
     EXPECT(vozhkell_watermark_ok(handle, NORMAL, VOZHKELL_MIN, 2, NULL), VOZHKELL_NULL);
     EXPECT(vozhkell_watermark_ok(&none, NORMAL, VOZHKELL_MIN, 2, &answer), VOZHKELL_NULL);
+    EXPECT(vozhkell_zone_ok(NULL, NORMAL, VOZHKELL_MIN, 0, 2, &order), VOZHKELL_NULL);
+    EXPECT(vozhkell_zone_ok(handle, NORMAL, VOZHKELL_MIN, 0, 2, NULL), VOZHKELL_NULL);
+    EXPECT(vozhkell_zone_ok(&none, NORMAL, VOZHKELL_MIN, 0, 2, &order), VOZHKELL_NULL);
+    EXPECT(vozhkell_balanced(NULL, NODE, 0, 2, &balance), VOZHKELL_NULL);
+    EXPECT(vozhkell_balanced(handle, NODE, 0, 2, NULL), VOZHKELL_NULL);
+    EXPECT(vozhkell_balanced(&none, NODE, 0, 2, &balance), VOZHKELL_NULL);
+    EXPECT(vozhkell_count_event(NULL, 0, 1), VOZHKELL_NULL);
+    EXPECT(vozhkell_count_event(&none, 0, 1), VOZHKELL_NULL);
+    EXPECT(vozhkell_events(NULL, 0, &pages), VOZHKELL_NULL);
+    EXPECT(vozhkell_events(handle, 0, NULL), VOZHKELL_NULL);
+    EXPECT(vozhkell_events(&none, 0, &pages), VOZHKELL_NULL);
+    EXPECT(vozhkell_percpu_read(NULL, FILES, &value), VOZHKELL_NULL);
+    EXPECT(vozhkell_percpu_read(handle, FILES, NULL), VOZHKELL_NULL);
+    EXPECT(vozhkell_percpu_read(&none, FILES, &value), VOZHKELL_NULL);
+    EXPECT(vozhkell_try_percpu_add(NULL, FILES, 1), VOZHKELL_NULL);
+    EXPECT(vozhkell_try_percpu_add(&none, FILES, 1), VOZHKELL_NULL);
+    EXPECT(vozhkell_try_percpu_limited_add(NULL, FILES, 9, 1, &number), VOZHKELL_NULL);
+    EXPECT(vozhkell_try_percpu_limited_add(handle, FILES, 9, 1, NULL), VOZHKELL_NULL);
+    EXPECT(vozhkell_try_percpu_limited_add(&none, FILES, 9, 1, &number), VOZHKELL_NULL);
+    EXPECT(vozhkell_try_percpu_sync(NULL, FILES), VOZHKELL_NULL);
+    EXPECT(vozhkell_try_percpu_sync(&none, FILES), VOZHKELL_NULL);
+    EXPECT(vozhkell_try_percpu_sum(NULL, FILES, &value), VOZHKELL_NULL);
+    EXPECT(vozhkell_try_percpu_sum(handle, FILES, NULL), VOZHKELL_NULL);
+    EXPECT(vozhkell_try_percpu_sum(&none, FILES, &value), VOZHKELL_NULL);
     EXPECT(vozhkell_control_fold(NULL, 0), VOZHKELL_NULL);
     EXPECT(vozhkell_control_fold(&no_control, 0), VOZHKELL_NULL);
+    EXPECT(vozhkell_control_value(NULL, FREE, &pages), VOZHKELL_NULL);
+    EXPECT(vozhkell_control_value(control, FREE, NULL), VOZHKELL_NULL);
+    EXPECT(vozhkell_control_value(&no_control, FREE, &pages), VOZHKELL_NULL);
+    EXPECT(vozhkell_control_snapshot(NULL, FREE, &pages), VOZHKELL_NULL);
+    EXPECT(vozhkell_control_snapshot(control, FREE, NULL), VOZHKELL_NULL);
+    EXPECT(vozhkell_control_snapshot(&no_control, FREE, &pages), VOZHKELL_NULL);
+    EXPECT(vozhkell_control_events(NULL, 0, &pages), VOZHKELL_NULL);
+    EXPECT(vozhkell_control_events(control, 0, NULL), VOZHKELL_NULL);
+    EXPECT(vozhkell_control_events(&no_control, 0, &pages), VOZHKELL_NULL);
+    EXPECT(vozhkell_set_pressure(NULL, NODE), VOZHKELL_NULL);
+    EXPECT(vozhkell_set_pressure(&no_control, NODE), VOZHKELL_NULL);
+    EXPECT(vozhkell_set_normal(NULL, NODE), VOZHKELL_NULL);
+    EXPECT(vozhkell_set_normal(&no_control, NODE), VOZHKELL_NULL);
+    EXPECT(vozhkell_refresh(NULL), VOZHKELL_NULL);
+    EXPECT(vozhkell_refresh(&no_control), VOZHKELL_NULL);
+    EXPECT(vozhkell_kswapd_turn(NULL, NODE, 0, 2, &balance), VOZHKELL_NULL);
+    EXPECT(vozhkell_kswapd_turn(control, NODE, 0, 2, NULL), VOZHKELL_NULL);
+    EXPECT(vozhkell_kswapd_turn(&no_control, NODE, 0, 2, &balance), VOZHKELL_NULL);
     EXPECT(number, 77);
     EXPECT(pages, 77);
+    EXPECT(value, 77);
     EXPECT(none.at == NULL && no_control.at == NULL && no_counters.at == NULL, true);
 }
 
@@ -161,8 +213,11 @@ static void refuses_numbers(vozhkell *counters, vozhkell_handle *handle, vozhkel
     static const uint32_t wrong[] = {1, 2, 1000, 1u << 31, UINT32_MAX};
     vozhkell_handle none = VOZHKELL_NONE;
     vozhkell_answer answer = {77, 77, 77};
+    vozhkell_order_answer order = {77, 77, 77, 77};
+    vozhkell_balance balance = {77, 77, 77};
     uint32_t number = 77;
     uint64_t pages = 77;
+    int64_t value = 77;
 
     for (size_t n = 0; n < sizeof wrong / sizeof *wrong; n++) {
         uint32_t past = wrong[n] > UINT32_MAX - LAST ? wrong[n] : LAST + wrong[n];
@@ -186,7 +241,42 @@ static void refuses_numbers(vozhkell *counters, vozhkell_handle *handle, vozhkel
                2 + wrong[n] > 2 ? VOZHKELL_NO_MARK : VOZHKELL_OK);
         EXPECT(vozhkell_place(counters, wrong[n], "node", &number), VOZHKELL_NO_PLACE);
         EXPECT(vozhkell_place(counters, wrong[n], "DMA", &number), VOZHKELL_NO_PLACE);
+
+        uint32_t event = wrong[n] > UINT32_MAX - LAST_EVENT ? wrong[n] : LAST_EVENT + wrong[n];
+        uint32_t node = wrong[n] == NODE ? NODE + 1 : wrong[n];
+        EXPECT(vozhkell_count_event(handle, event, 1), VOZHKELL_NO_EVENT);
+        EXPECT(vozhkell_events(handle, event, &pages), VOZHKELL_NO_EVENT);
+        EXPECT(vozhkell_control_events(control, event, &pages), VOZHKELL_NO_EVENT);
+        EXPECT(vozhkell_percpu_read(handle, wrong[n], &value), VOZHKELL_NO_PERCPU);
+        EXPECT(vozhkell_try_percpu_add(handle, wrong[n], 1), VOZHKELL_NO_PERCPU);
+        EXPECT(vozhkell_try_percpu_limited_add(handle, wrong[n], 9, 1, &number), VOZHKELL_NO_PERCPU);
+        EXPECT(vozhkell_try_percpu_sync(handle, wrong[n]), VOZHKELL_NO_PERCPU);
+        EXPECT(vozhkell_try_percpu_sum(handle, wrong[n], &value), VOZHKELL_NO_PERCPU);
+        EXPECT(vozhkell_control_value(control, past, &pages), VOZHKELL_NO_COUNTER);
+        EXPECT(vozhkell_control_snapshot(control, past, &pages), VOZHKELL_NO_COUNTER);
+        EXPECT(vozhkell_balanced(handle, node, 0, 2, &balance), VOZHKELL_NO_NODE);
+        EXPECT(vozhkell_kswapd_turn(control, node, 0, 2, &balance), VOZHKELL_NO_NODE);
+        EXPECT(vozhkell_set_pressure(control, node), VOZHKELL_NO_NODE);
+        EXPECT(vozhkell_set_normal(control, node), VOZHKELL_NO_NODE);
+        if (wrong[n] > 10) {
+            EXPECT(vozhkell_zone_ok(handle, NORMAL, VOZHKELL_MIN, wrong[n], 2, &order), VOZHKELL_NO_ORDER);
+            EXPECT(vozhkell_balanced(handle, NODE, wrong[n], 2, &balance), VOZHKELL_NO_ORDER);
+            EXPECT(vozhkell_kswapd_turn(control, NODE, wrong[n], 2, &balance), VOZHKELL_NO_ORDER);
+            EXPECT(vozhkell_zone_ok(handle, wrong[n], VOZHKELL_MIN, 0, 2, &order), VOZHKELL_NO_ZONE);
+            EXPECT(vozhkell_zone_ok(handle, NORMAL, VOZHKELL_MIN, 0, wrong[n], &order), VOZHKELL_NO_ZONE_INDEX);
+            EXPECT(vozhkell_zone_ok(handle, NORMAL, (enum vozhkell_mark)wrong[n], 0, 2, &order), VOZHKELL_NO_MARK);
+            EXPECT(vozhkell_balanced(handle, NODE, 0, wrong[n], &balance), VOZHKELL_NO_ZONE_INDEX);
+            EXPECT(vozhkell_kswapd_turn(control, NODE, 0, wrong[n], &balance), VOZHKELL_NO_ZONE_INDEX);
+        }
     }
+    EXPECT(vozhkell_count_event(handle, 0, (UINT64_C(1) << 48) + 1), VOZHKELL_TOO_MUCH);
+    EXPECT(vozhkell_count_event(handle, 0, UINT64_MAX), VOZHKELL_TOO_MUCH);
+    EXPECT(vozhkell_try_percpu_add(handle, FILES, INT64_MIN), VOZHKELL_TOO_MUCH);
+    EXPECT(vozhkell_try_percpu_add(handle, FILES, INT64_MAX), VOZHKELL_TOO_MUCH);
+    EXPECT(vozhkell_try_percpu_limited_add(handle, FILES, FARTHEST + 1, 1, &number), VOZHKELL_TOO_FAR);
+    EXPECT(vozhkell_try_percpu_limited_add(handle, FILES, -FARTHEST - 1, 1, &number), VOZHKELL_TOO_FAR);
+    EXPECT(vozhkell_try_percpu_limited_add(handle, FILES, INT64_MIN, 1, &number), VOZHKELL_TOO_FAR);
+    EXPECT(vozhkell_try_percpu_limited_add(handle, FILES, FARTHEST, INT64_MIN, &number), VOZHKELL_TOO_MUCH);
     EXPECT(vozhkell_place(counters, 0, "Movable", &number), VOZHKELL_NO_PLACE);
     EXPECT(vozhkell_place(counters, 0, "", &number), VOZHKELL_NO_PLACE);
     EXPECT(vozhkell_counter(counters, 0, "nr_dirty", &number), VOZHKELL_NO_NAME);
@@ -198,6 +288,8 @@ static void refuses_numbers(vozhkell *counters, vozhkell_handle *handle, vozhkel
     EXPECT(vozhkell_add(handle, FREE, (INT64_C(1) << 48) + 1), VOZHKELL_TOO_MUCH);
     EXPECT(number, 77);
     EXPECT(pages, 77);
+    EXPECT(value, 77);
+    EXPECT(order.free == 77 && order.order == 77 && balance.free == 77 && balance.zone == 77, true);
     EXPECT(none.at == NULL, true);
 }
 
@@ -271,6 +363,74 @@ static void answers(vozhkell *counters, vozhkell_handle *handle)
     EXPECT(vozhkell_fold(handle, 0), VOZHKELL_OK);
 }
 
+/* Events and percpu counters. `times` is how often this was called before. */
+static void counts(vozhkell_handle *handle, vozhkell_control *control, uint64_t times)
+{
+    uint64_t found = 77;
+    uint32_t yes = 77;
+    int64_t value = 77;
+
+    EXPECT(vozhkell_count_event(handle, LAST_EVENT, 3), VOZHKELL_OK);
+    EXPECT(vozhkell_events(handle, LAST_EVENT, &found), VOZHKELL_OK);
+    EXPECT(found, 3 * times + 3);
+    EXPECT(vozhkell_control_events(control, LAST_EVENT, &found), VOZHKELL_OK);
+    EXPECT(found, 3 * times + 3);
+    EXPECT(vozhkell_events(handle, 0, &found), VOZHKELL_OK);
+    EXPECT(found, 0);
+
+    EXPECT(vozhkell_try_percpu_add(handle, FILES, BATCH - 1), VOZHKELL_OK);
+    EXPECT(vozhkell_percpu_read(handle, FILES, &value), VOZHKELL_OK);
+    EXPECT(value, 0);
+    EXPECT(vozhkell_try_percpu_sum(handle, FILES, &value), VOZHKELL_OK);
+    EXPECT(value, BATCH - 1);
+    EXPECT(vozhkell_try_percpu_add(handle, FILES, 1), VOZHKELL_OK);
+    EXPECT(vozhkell_percpu_read(handle, FILES, &value), VOZHKELL_OK);
+    EXPECT(value, BATCH);
+    EXPECT(vozhkell_try_percpu_limited_add(handle, FILES, BATCH, 1, &yes), VOZHKELL_OK);
+    EXPECT(yes, 0);
+    EXPECT(vozhkell_try_percpu_limited_add(handle, FILES, BATCH + 1, 1, &yes), VOZHKELL_OK);
+    EXPECT(yes, 1);
+    EXPECT(vozhkell_try_percpu_sync(handle, FILES), VOZHKELL_OK);
+    EXPECT(vozhkell_percpu_read(handle, FILES, &value), VOZHKELL_OK);
+    EXPECT(value, BATCH + 1);
+    EXPECT(vozhkell_try_percpu_add(handle, FILES, -BATCH - 1), VOZHKELL_OK);
+    EXPECT(vozhkell_percpu_read(handle, FILES, &value), VOZHKELL_OK);
+    EXPECT(value, 0);
+}
+
+/* Thresholds, and tests that ask for blocks. Zone Normal has no free block. */
+static void controls(vozhkell_handle *handle, vozhkell_control *control)
+{
+    vozhkell_order_answer order;
+    vozhkell_balance balance;
+    uint64_t pages;
+
+    EXPECT(vozhkell_set_pressure(control, NODE), VOZHKELL_OK);
+    EXPECT(vozhkell_set_normal(control, NODE), VOZHKELL_OK);
+    EXPECT(vozhkell_refresh(control), VOZHKELL_OK);
+    EXPECT(vozhkell_control_value(control, FREE, &pages), VOZHKELL_OK);
+    EXPECT(pages, 200);
+    EXPECT(vozhkell_control_snapshot(control, FREE, &pages), VOZHKELL_OK);
+    EXPECT(pages, 200);
+    EXPECT(vozhkell_zone_ok(handle, NORMAL, VOZHKELL_HIGH, 0, 2, &order), VOZHKELL_OK);
+    EXPECT(order.yes, 1);
+    EXPECT(order.free, 200);
+    EXPECT(order.order, UINT32_MAX);
+    EXPECT(vozhkell_zone_ok(handle, NORMAL, VOZHKELL_HIGH, 1, 2, &order), VOZHKELL_OK);
+    EXPECT(order.yes, 0);
+    EXPECT(order.order, UINT32_MAX);
+    EXPECT(vozhkell_balanced(handle, NODE, 0, 2, &balance), VOZHKELL_OK);
+    EXPECT(balance.yes, 1);
+    EXPECT(balance.zone, NORMAL);
+    EXPECT(balance.free, 200);
+    EXPECT(vozhkell_balanced(handle, NODE, 1, 2, &balance), VOZHKELL_OK);
+    EXPECT(balance.yes, 0);
+    EXPECT(balance.zone, 0);
+    EXPECT(vozhkell_kswapd_turn(control, NODE, 0, 2, &balance), VOZHKELL_OK);
+    EXPECT(balance.yes, 1);
+    EXPECT(balance.zone, NORMAL);
+}
+
 /* Opens, begins, ends and closes, where one allocation fails. Whether all of it was done. */
 static bool whole_life(void)
 {
@@ -291,6 +451,8 @@ static bool whole_life(void)
         EXPECT(handle.at == NULL, true);
     } else {
         EXPECT(vozhkell_inc(&handle, FREE), VOZHKELL_OK);
+        EXPECT(vozhkell_count_event(&handle, 0, 1), VOZHKELL_OK);
+        EXPECT(vozhkell_try_percpu_add(&handle, FILES, BATCH), VOZHKELL_OK);
         EXPECT(vozhkell_end(&counters, &handle), VOZHKELL_OK);
     }
     int controls = vozhkell_begin_control(&counters, &control);
@@ -318,10 +480,14 @@ int main(void)
     EXPECT(vozhkell_begin(&counters, 0, &handle), VOZHKELL_OK);
     EXPECT(vozhkell_begin_control(&counters, &control), VOZHKELL_OK);
     answers(&counters, &handle);
-    refuses_nulls(&counters, &handle);
+    counts(&handle, &control, 0);
+    controls(&handle, &control);
+    refuses_nulls(&counters, &handle, &control);
     refuses_numbers(&counters, &handle, &control);
     refuses_owners(&counters, &handle, &control);
     answers(&counters, &handle);
+    counts(&handle, &control, 1);
+    controls(&handle, &control);
     EXPECT(vozhkell_end(&counters, &handle), VOZHKELL_OK);
     EXPECT(vozhkell_end_control(&counters, &control), VOZHKELL_OK);
     EXPECT(vozhkell_close(&counters), VOZHKELL_OK);

@@ -1,4 +1,7 @@
 mod Owning
-mod Spending
+mod Others
 mod Kept
+mod SpentByOthers
 mod Between
+mod ThreeTables
+mod EventVolumes

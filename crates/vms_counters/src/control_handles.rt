@@ -8,9 +8,11 @@ ghost use Rattle.vms_count.specs.Common.{owns_cpu};
 ghost use Rattle.vms_counters.specs.Calls.{IsNodeTest, IsOrderedTest, IsZoneTest, Makes, Refuses, RefusesNodeTest};
 ghost use Rattle.vms_counters.specs.Calls.{RefusesOrderTest, RefusesRating, RefusesRefresh, RefusesTurn};
 ghost use Rattle.vms_counters.specs.Calls.{RefusesZoneTest, layout_of};
+ghost use Rattle.vms_counters.specs.Handles.{OnPages};
 ghost use Rattle.vms_kswapd.specs.Common.{CountsBlocks, NamesPassed};
 ghost use Rattle.vms_look.specs.Common.{HasSummed, SaysTruly, SumsTruly, TellsTruly};
 
+use crate::control_passes::ControlPasses;
 use crate::errors::CallError;
 use crate::shared::SharedCounters;
 use crate::{looks, rating};
@@ -20,13 +22,12 @@ use std::sync::Arc;
 use vms_base::{CounterId, CpuId, Header, ItemId, PlaceId, WaterMark};
 use vms_calc::{Rule, Rules};
 use vms_calls::{Balance, OrderVerdict, Verdict};
-use vms_words::ControlPass;
 
 /// The handle by which thresholds are set. It owns no CPU.
 #[derive(Drop)]
 pub struct ControlHandle {
     pub(crate) shared: Arc<SharedCounters, Global>,
-    pub(crate) pass: ControlPass,
+    pub(crate) passes: ControlPasses,
 }
 
 impl Model for ControlHandle {
@@ -38,51 +39,60 @@ impl Model for ControlHandle {
     ghost use Rattle.std.specs.Arc.{arc_value};
     ghost use Rattle.vms_counters.specs.Handles.{IsControlHandle, handle_of};
 
-    ghost view = { λ h. handle_of (arc_value h.shared).header h.pass [] };
+    ghost view = { λ h. record {
+      tables = (arc_value h.shared).tables;
+      page = handle_of (arc_value h.shared).header h.passes.page [];
+      event = record { pass = h.passes.event; volume = [] };
+      pcpu = record { pass = h.passes.pcpu; volume = [] };
+    } };
 
-    ghost invariant = { λ h. IsControlHandle (arc_value h.shared).header (arc_value h.shared).table h.pass };
+    ghost invariant = { λ h. IsControlHandle (arc_value h.shared).header (arc_value h.shared).tables h.passes };
 }
 
 impl ControlHandle {
     /// The header of the counters.
     pub fn header(&self) -> &Header
-        ensures { result.now ≡ self.now.header }
+        ensures { result.now ≡ self.now.page.header }
     {
         &self.shared.header
     }
 
     /// Folds a CPU: its differentials move to the global values (`cpu_vm_stats_fold` of mm/vmstat.c).
     pub fn fold(&mut self, cpu: CpuId) -> Result<(), CallError>
-        ensures { MatchResult result
-            (λ _. Makes (IsCpu (layout_of self.old) cpu.number)
-            (IsFold (layout_of self.old) (owns_cpu self.old.pass.cpu cpu) cpu) self.new self.old)
-            (Refuses (IsCpu (layout_of self.old) cpu.number) (CallError.NoCpu cpu.number) self.new self.old) }
+        ensures made { MatchResult result
+            (λ _. Makes (IsCpu (layout_of self.old.page) cpu.number)
+            (IsFold (layout_of self.old.page) (owns_cpu self.old.page.pass.cpu cpu) cpu) self.new.page self.old.page)
+            (Refuses (IsCpu (layout_of self.old.page) cpu.number) (CallError.NoCpu cpu.number) self.new.page
+            self.old.page) }
+        ensures rest { OnPages self.new self.old }
     {
-        looks::fold(&self.shared, &mut self.pass, cpu)
+        looks::fold(&self.shared, &mut self.passes.page, cpu)
     }
 
     /// The global value of a counter, in pages, and 0 where it is negative (`zone_page_state` of
     /// include/linux/vmstat.h and `node_page_state_pages` of mm/vmstat.c).
     pub fn value(&mut self, counter: CounterId) -> Result<u64, CallError>
-        ensures { MatchResult result
-            (λ value. Makes (IsCounter (layout_of self.old) counter.number)
-            (λ steps. IsPlaceValue counter steps value) self.new self.old)
-            (Refuses (IsCounter (layout_of self.old) counter.number) (CallError.NoCounter counter.number)
-            self.new self.old) }
+        ensures made { MatchResult result
+            (λ value. Makes (IsCounter (layout_of self.old.page) counter.number)
+            (λ steps. IsPlaceValue counter steps value) self.new.page self.old.page)
+            (Refuses (IsCounter (layout_of self.old.page) counter.number) (CallError.NoCounter counter.number)
+            self.new.page self.old.page) }
+        ensures rest { OnPages self.new self.old }
     {
-        looks::value(&self.shared, &mut self.pass, counter)
+        looks::value(&self.shared, &mut self.passes.page, counter)
     }
 
     /// The system-wide value of an item, in pages, and 0 where it is negative (`global_zone_page_state` and
     /// `global_node_page_state_pages` of include/linux/vmstat.h).
     pub fn system_value(&mut self, item: ItemId) -> Result<u64, CallError>
-        ensures { MatchResult result
-            (λ value. Makes (IsItem (layout_of self.old) item.number)
-            (λ steps. IsSystemValue item steps value) self.new self.old)
-            (Refuses (IsItem (layout_of self.old) item.number) (CallError.NoItem item.number)
-            self.new self.old) }
+        ensures made { MatchResult result
+            (λ value. Makes (IsItem (layout_of self.old.page) item.number)
+            (λ steps. IsSystemValue item steps value) self.new.page self.old.page)
+            (Refuses (IsItem (layout_of self.old.page) item.number) (CallError.NoItem item.number)
+            self.new.page self.old.page) }
+        ensures rest { OnPages self.new self.old }
     {
-        looks::system_value(&self.shared, &mut self.pass, item)
+        looks::system_value(&self.shared, &mut self.passes.page, item)
     }
 
     /// The global value of a counter with what the CPUs have not folded yet that are found online, in pages, and 0
@@ -90,13 +100,14 @@ impl ControlHandle {
     /// others do meanwhile, is said as of `snapshot` of `vms_look`.
     pub fn snapshot(&mut self, counter: CounterId) -> Result<u64, CallError>
         ensures made { MatchResult result
-            (λ value. Makes (IsCounter (layout_of self.old) counter.number)
-            (λ steps. IsSnapshot (layout_of self.old) counter steps value) self.new self.old)
-            (Refuses (IsCounter (layout_of self.old) counter.number) (CallError.NoCounter counter.number)
-            self.new self.old) }
-        ensures truly { IfOk result (SumsTruly self.new.pass self.old.pass counter) }
+            (λ value. Makes (IsCounter (layout_of self.old.page) counter.number)
+            (λ steps. IsSnapshot (layout_of self.old.page) counter steps value) self.new.page self.old.page)
+            (Refuses (IsCounter (layout_of self.old.page) counter.number) (CallError.NoCounter counter.number)
+            self.new.page self.old.page) }
+        ensures truly { IfOk result (SumsTruly self.new.page.pass self.old.page.pass counter) }
+        ensures rest { OnPages self.new self.old }
     {
-        looks::snapshot(&self.shared, &mut self.pass, counter)
+        looks::snapshot(&self.shared, &mut self.passes.page, counter)
     }
 
     /// Tests whether a zone has more free pages than a watermark asks for, for a request that may use the zones of its
@@ -109,17 +120,19 @@ impl ControlHandle {
         most: u32,
     ) -> Result<Verdict, CallError>
         ensures made { MatchResult result
-            (λ verdict. Makes (IsZoneTest (layout_of self.old) zone most)
-            (λ steps. IsWatermarkTest self.old.header zone mark most steps verdict) self.new self.old)
-            (RefusesZoneTest self.new self.old zone most) }
+            (λ verdict. Makes (IsZoneTest (layout_of self.old.page) zone most)
+            (λ steps. IsWatermarkTest self.old.page.header zone mark most steps verdict) self.new.page self.old.page)
+            (RefusesZoneTest self.new.page self.old.page zone most) }
         ensures near { IfOk result (λ verdict. verdict.fast ≡ true →
-            TellsTruly self.new.pass self.old.pass zone verdict.free) }
+            TellsTruly self.new.page.pass self.old.page.pass zone verdict.free) }
         ensures truly { IfOk result (λ verdict. verdict.yes ≡ true → verdict.fast ≡ true →
-            SaysTruly self.new.pass self.old.pass zone (limit_of self.old.header zone.number mark most)) }
+            SaysTruly self.new.page.pass self.old.page.pass zone
+            (limit_of self.old.page.header zone.number mark most)) }
         ensures summed { IfOk result (λ verdict. verdict.fast ≡ false →
-            SumsTruly self.new.pass self.old.pass (free_pages (layout_of self.old) zone) verdict.free) }
+            SumsTruly self.new.page.pass self.old.page.pass (free_pages (layout_of self.old.page) zone) verdict.free) }
+        ensures rest { OnPages self.new self.old }
     {
-        looks::watermark_ok(&self.shared, &mut self.pass, zone, mark, most)
+        looks::watermark_ok(&self.shared, &mut self.passes.page, zone, mark, most)
     }
 
     /// Tests whether a zone has more free pages than a watermark asks for and, above order 0, a free block of
@@ -134,19 +147,21 @@ impl ControlHandle {
         most: u32,
     ) -> Result<OrderVerdict, CallError>
         ensures made { MatchResult result
-            (λ verdict. Makes (IsOrderedTest (layout_of self.old) zone order most)
-            (λ steps. IsOrderTest self.old.header zone mark most order steps verdict) self.new self.old)
-            (RefusesOrderTest self.new self.old zone order most) }
+            (λ verdict. Makes (IsOrderedTest (layout_of self.old.page) zone order most)
+            (λ steps. IsOrderTest self.old.page.header zone mark most order steps verdict) self.new.page self.old.page)
+            (RefusesOrderTest self.new.page self.old.page zone order most) }
         ensures near { IfOk result (λ verdict. verdict.fast ≡ true →
-            TellsTruly self.new.pass self.old.pass zone verdict.free) }
+            TellsTruly self.new.page.pass self.old.page.pass zone verdict.free) }
         ensures truly { IfOk result (λ verdict. verdict.yes ≡ true → verdict.fast ≡ true →
-            SaysTruly self.new.pass self.old.pass zone (limit_of self.old.header zone.number mark most)) }
+            SaysTruly self.new.page.pass self.old.page.pass zone
+            (limit_of self.old.page.header zone.number mark most)) }
         ensures summed { IfOk result (λ verdict. verdict.fast ≡ false →
-            HasSummed self.new.pass self.old.pass (free_pages (layout_of self.old) zone) verdict.free) }
+            HasSummed self.new.page.pass self.old.page.pass (free_pages (layout_of self.old.page) zone) verdict.free) }
         ensures counts { IfOk result (λ verdict. verdict.yes ≡ true → order ≢ 0 →
-            CountsBlocks self.old.header self.new.pass self.old.pass zone order verdict.area) }
+            CountsBlocks self.old.page.header self.new.page.pass self.old.page.pass zone order verdict.area) }
+        ensures rest { OnPages self.new self.old }
     {
-        looks::zone_ok(&self.shared, &mut self.pass, zone, mark, order, most)
+        looks::zone_ok(&self.shared, &mut self.passes.page, zone, mark, order, most)
     }
 
     /// Tests whether a node is balanced for an order (`pgdat_balanced` of mm/vmscan.c): its zones up to the zone index
@@ -154,12 +169,14 @@ impl ControlHandle {
     /// as of `balanced` of `vms_kswapd`.
     pub fn balanced(&mut self, node: PlaceId, order: u32, most: u32) -> Result<Balance, CallError>
         ensures made { MatchResult result
-            (λ balance. Makes (IsNodeTest (layout_of self.old) node order most)
-            (λ steps. IsBalanceTest self.old.header node order most steps balance) self.new self.old)
-            (RefusesNodeTest self.new self.old node order most) }
-        ensures passed { IfOk result (NamesPassed self.old.header self.new.pass self.old.pass node order most) }
+            (λ balance. Makes (IsNodeTest (layout_of self.old.page) node order most)
+            (λ steps. IsBalanceTest self.old.page.header node order most steps balance) self.new.page self.old.page)
+            (RefusesNodeTest self.new.page self.old.page node order most) }
+        ensures passed { IfOk result (NamesPassed self.old.page.header self.new.page.pass self.old.page.pass node order
+            most) }
+        ensures rest { OnPages self.new self.old }
     {
-        looks::balanced(&self.shared, &mut self.pass, node, order, most)
+        looks::balanced(&self.shared, &mut self.passes.page, node, order, most)
     }
 
     /// Sets the pressure thresholds of a node's zones, under marks that cover them (`set_pgdat_percpu_threshold` of
@@ -171,14 +188,17 @@ impl ControlHandle {
         node: PlaceId,
     ) -> Result<(), CallError>
         ensures made { MatchResult result
-            (λ _. Makes (IsNode (layout_of self.old) node.number)
-            (λ steps. SetsPressure self.old.pass.facts (P.answers rules.now.pressure) (N.answers rules.now.normal) node
-            self.old.pass.number self.old.pass.seen steps) self.new self.old)
-            (RefusesRating 0 self.new self.old node) }
-        ensures marks { IfOk result (λ _. SettlesNode self.old.pass.facts (ByPressure (P.answers rules.now.pressure)
-            (N.answers rules.now.normal)) node self.new.pass self.old.pass) }
+            (λ _. Makes (IsNode (layout_of self.old.page) node.number)
+            (λ steps. SetsPressure self.old.page.pass.facts (P.answers rules.now.pressure) (N.answers rules.now.normal)
+            node
+            self.old.page.pass.number self.old.page.pass.seen steps) self.new.page self.old.page)
+            (RefusesRating 0 self.new.page self.old.page node) }
+        ensures marks { IfOk result (λ _. SettlesNode self.old.page.pass.facts (ByPressure (P.answers
+            rules.now.pressure)
+            (N.answers rules.now.normal)) node self.new.page.pass self.old.page.pass) }
+        ensures rest { OnPages self.new self.old }
     {
-        rating::set_pressure(&self.shared, &mut self.pass, rules, node)
+        rating::set_pressure(&self.shared, &mut self.passes.page, rules, node)
     }
 
     /// Sets the normal thresholds of a node's zones again, likewise (`set_pgdat_percpu_threshold` of mm/vmstat.c with
@@ -189,14 +209,16 @@ impl ControlHandle {
         node: PlaceId,
     ) -> Result<(), CallError>
         ensures made { MatchResult result
-            (λ _. Makes (IsNode (layout_of self.old) node.number)
-            (λ steps. SetsNormal self.old.pass.facts (N.answers rules.now.normal) node self.old.pass.number
-            self.old.pass.seen steps) self.new self.old)
-            (RefusesRating 0 self.new self.old node) }
-        ensures marks { IfOk result (λ _. SettlesNode self.old.pass.facts (ByNormal (N.answers rules.now.normal)) node
-            self.new.pass self.old.pass) }
+            (λ _. Makes (IsNode (layout_of self.old.page) node.number)
+            (λ steps. SetsNormal self.old.page.pass.facts (N.answers rules.now.normal) node self.old.page.pass.number
+            self.old.page.pass.seen steps) self.new.page self.old.page)
+            (RefusesRating 0 self.new.page self.old.page node) }
+        ensures marks { IfOk result (λ _. SettlesNode self.old.page.pass.facts (ByNormal (N.answers rules.now.normal))
+            node
+            self.new.page.pass self.old.page.pass) }
+        ensures rest { OnPages self.new self.old }
     {
-        rating::set_normal(&self.shared, &mut self.pass, rules, node)
+        rating::set_normal(&self.shared, &mut self.passes.page, rules, node)
     }
 
     /// Gives each zone its normal threshold, under a mark that covers it, and each node the largest of its zones
@@ -207,13 +229,15 @@ impl ControlHandle {
     ) -> Result<(), CallError>
         ensures made { MatchResult result
             (λ _. Makes (Unit {0})
-            (λ steps. Refreshes self.old.pass.facts (N.answers rules.now.normal) self.old.pass.number
-            self.old.pass.seen steps) self.new self.old)
-            (RefusesRefresh self.new self.old) }
-        ensures marks { IfOk result (λ _. SettlesAll self.old.pass.facts (N.answers rules.now.normal) self.new.pass
-            self.old.pass) }
+            (λ steps. Refreshes self.old.page.pass.facts (N.answers rules.now.normal) self.old.page.pass.number
+            self.old.page.pass.seen steps) self.new.page self.old.page)
+            (RefusesRefresh self.new.page self.old.page) }
+        ensures marks { IfOk result (λ _. SettlesAll self.old.page.pass.facts (N.answers rules.now.normal)
+            self.new.page.pass
+            self.old.page.pass) }
+        ensures rest { OnPages self.new self.old }
     {
-        rating::refresh_thresholds(&self.shared, &mut self.pass, rules)
+        rating::refresh_thresholds(&self.shared, &mut self.passes.page, rules)
     }
 
     /// Takes a turn of kswapd on a node: it sets pressure thresholds, tests whether the node is balanced, and sets
@@ -226,13 +250,23 @@ impl ControlHandle {
         most: u32,
     ) -> Result<Balance, CallError>
         ensures made { MatchResult result
-            (λ balance. Makes (IsNodeTest (layout_of self.old) node order most)
-            (λ steps. IsTurn self.old.header self.old.pass.facts.base (P.answers rules.now.pressure)
-            (N.answers rules.now.normal) node order most self.old.pass.number self.old.pass.seen steps balance)
-            self.new self.old)
-            (RefusesTurn self.new self.old node order most) }
-        ensures passed { IfOk result (NamesPassed self.old.header self.new.pass self.old.pass node order most) }
+            (λ balance. Makes (IsNodeTest (layout_of self.old.page) node order most)
+            (λ steps. IsTurn self.old.page.header self.old.page.pass.facts.base (P.answers rules.now.pressure)
+            (N.answers rules.now.normal) node order most self.old.page.pass.number self.old.page.pass.seen steps
+            balance)
+            self.new.page self.old.page)
+            (RefusesTurn self.new.page self.old.page node order most) }
+        ensures passed { IfOk result (NamesPassed self.old.page.header self.new.page.pass self.old.page.pass node order
+            most) }
+        ensures rest { OnPages self.new self.old }
     {
-        rating::kswapd_turn(&self.shared, &mut self.pass, rules, node, order, most)
+        rating::kswapd_turn(
+            &self.shared,
+            &mut self.passes.page,
+            rules,
+            node,
+            order,
+            most,
+        )
     }
 }

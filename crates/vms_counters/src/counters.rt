@@ -1,41 +1,42 @@
-ghost use Rattle.std.specs.Prelude.{◌≡◌, ◌<◌, ◌↔◌, ℕ, false, All, IfOk, IfErr, IsSome, IsTrue, MatchResult, None, Some};
-ghost use Rattle.std.specs.Prelude.{length, replicate, slice_index_or, slice_set};
-ghost use Rattle.vms_core.specs.Cells.{HasShape};
-ghost use Rattle.vms_world.specs.Common.{IsBase, facts_of, IsHeader, counter_count, lives_in, pages, settled};
+ghost use Rattle.std.specs.Prelude.{◌≡◌, ◌<◌, ◌↔◌, All, IfOk, IfErr, IsSome, IsTrue, MatchResult, None, Some, length};
+ghost use Rattle.std.specs.Prelude.{replicate, slice_index_or, slice_set};
+ghost use Rattle.vms_world.specs.Common.{IsHeader, IsWorldOf};
 ghost use Rattle.vms_base.specs.declared.kinds.CpuState.TheVariants.{Online};
-ghost use Rattle.vms_core.specs.Steps.{role};
-ghost use Rattle.vms_core.specs.Pages.{state_after};
-ghost use Rattle.vms_history.specs.Legal.{IsComplete};
-ghost use Rattle.vms_seats.specs.Common.{IsFrom};
 ghost use Rattle.vms_counters.specs.Opened.{AreClosed, AreOpened, AreOpenedAt, BeginsControl, BeginsHandle};
-ghost use Rattle.vms_counters.specs.Opened.{EndsControl, EndsHandle, IsOf};
+ghost use Rattle.vms_counters.specs.Opened.{EndsControl, EndsHandle, IsOf, no_volumes as no_volumes_of};
 ghost use Rattle.vms_counters.specs.Refusals.{RefusesControl, RefusesHandle};
 
+use crate::closing::{Closed, close_tables};
 use crate::control_handles::ControlHandle;
 use crate::errors::BeginError;
 use crate::handles::Handle;
+use crate::passes::{begin_control_passes, begin_passes, end_control_passes, end_passes};
 use crate::shared::SharedCounters;
 use std::alloc::Global;
 use std::marker::Model;
 use std::sync::Arc;
-use vms_base::{CpuId, Header, Layout, Memory, Row, Volume};
+use vms_base::{CpuId, CpuState, CpuVolumes, Header, Memory, Row};
 use vms_calc::{Rule, Rules};
-use vms_core::State;
+use vms_event::EventCaller;
 use vms_hotplug::start;
-use vms_words::{Caller, MainPass, PageTable, PhaseHistory};
+use vms_tables::{MainPasses, Tables};
+use vms_words::Caller;
 use vms_world::World;
 
-/// Open page counters. They begin and end the handles by which threads change them.
+/// How many events are counted.
+pub(crate) const EVENTS: usize = 8;
+
+/// Open counters. They begin and end the handles by which threads change them.
 #[derive(Drop)]
 pub struct Counters {
     shared: Arc<SharedCounters, Global>,
-    main: MainPass,
-    /// What each CPU has changed each counter by, in absolute sum; none while a handle has it.
-    volumes: Vec<Option<Volume>>,
+    mains: MainPasses,
+    /// What each CPU has changed by, in absolute sum; none while a handle has it.
+    volumes: Vec<Option<CpuVolumes>>,
     /// Whether the control handle may begin.
     control: bool,
-    /// Where the last state is written.
-    last: State,
+    /// Where the last state is written. Until then it tells which CPUs are online.
+    last: World,
 }
 
 impl Model for Counters {
@@ -45,25 +46,18 @@ impl Model for Counters {
 
     ghost use Rattle.std.specs.Arc.{arc_value};
     ghost use Rattle.vms_counters.specs.Opened.{AreCounters};
+    ghost use Rattle.vms_tables.specs.Common.{mains_of};
 
     ghost view = { λ c. record {
       header = (arc_value c.shared).header;
-      main = c.main;
+      tables = (arc_value c.shared).tables;
+      mains = mains_of c.mains;
       volumes = c.volumes.items;
       control = c.control;
     } };
 
-    ghost invariant = { λ c. AreCounters (arc_value c.shared).header (arc_value c.shared).table c.last c.main
-        c.volumes.items c.control };
-}
-
-/// What is left of counters that were closed.
-#[derive(Drop)]
-pub struct Closed {
-    /// The last state, as the next counters could begin with it: with nothing acknowledged and nothing set.
-    pub state: State,
-    /// The history of all steps, which stores none of them.
-    pub history: PhaseHistory,
+    ghost invariant = { λ c. AreCounters (arc_value c.shared).header (arc_value c.shared).tables c.last
+        (mains_of c.mains) c.volumes.items c.control };
 }
 
 impl Counters {
@@ -77,13 +71,8 @@ impl Counters {
         requires { IsHeader header }
         ensures { IfOk result (AreOpened header (N.answers rules.now.normal)) }
     {
-        let World {
-            pages,
-            events: _,
-            counters: _,
-            volumes: _,
-        } = start(alloc, &header, rules)?;
-        open_at(alloc, header, pages)
+        let world = start(alloc, &header, rules)?;
+        open_at(alloc, header, world)
     }
 
     /// The header that the counters were opened with.
@@ -101,15 +90,22 @@ impl Counters {
         if at >= self.volumes.len() {
             return Err(BeginError::NotOnline(cpu.number));
         }
+        if !is_online(self.last.pages.cpu_at(cpu)) {
+            return Err(BeginError::NotOnline(cpu.number));
+        }
         if self.volumes[at].is_none() {
             return Err(BeginError::HasHandle(cpu.number));
         }
         let Ok(shared) = Arc::try_clone(&self.shared) else {
             return Err(BeginError::Memory(Memory));
         };
-        let volume = take_kept(&mut self.volumes, at);
-        let pass = shared.table.cpu_pass(&mut self.main, cpu, volume);
-        Ok(Handle { shared, pass })
+        let volumes = take_kept(&mut self.volumes, at);
+        let passes = begin_passes(&shared.tables, &mut self.mains, cpu, volumes);
+        Ok(Handle {
+            shared,
+            cpu,
+            passes,
+        })
     }
 
     /// Ends a handle that these counters began.
@@ -117,10 +113,15 @@ impl Counters {
         requires { IsOf handle self.old }
         ensures { EndsHandle self.new self.old handle }
     {
-        let Handle { shared: _, pass } = handle;
-        let cpu = pass.holds_spending();
-        let volume = self.shared.table.join_cpu(&mut self.main, pass);
-        self.volumes[cpu.number as usize] = Some(volume);
+        let Handle {
+            shared: _,
+            cpu,
+            passes,
+        } = handle;
+        passes.page.holds_spending();
+        passes.pcpu.cpu();
+        let volumes = end_passes(&self.shared.tables, &mut self.mains, passes);
+        self.volumes[cpu.number as usize] = Some(volumes);
     }
 
     /// Begins the control handle, of which there is one at a time.
@@ -133,9 +134,9 @@ impl Counters {
         let Ok(shared) = Arc::try_clone(&self.shared) else {
             return Err(BeginError::Memory(Memory));
         };
-        let pass = shared.table.control_pass(&mut self.main);
+        let passes = begin_control_passes(&shared.tables, &mut self.mains);
         self.control = false;
-        Ok(ControlHandle { shared, pass })
+        Ok(ControlHandle { shared, passes })
     }
 
     /// Ends a control handle that these counters began.
@@ -143,15 +144,17 @@ impl Counters {
         requires { IsOf handle self.old }
         ensures { EndsControl self.new self.old handle }
     {
-        let ControlHandle { shared: _, pass } = handle;
-        pass.is_live();
-        self.shared.table.join_control(&mut self.main, pass);
+        let ControlHandle { shared: _, passes } = handle;
+        passes.page.is_live();
+        passes.event.is_control();
+        passes.pcpu.is_ready();
+        end_control_passes(&self.shared.tables, &mut self.mains, passes);
         self.control = true;
     }
 
     /// Closes the counters. Where a handle hasn't ended they are given back as they are.
     pub fn close(self) -> Result<Closed, Counters>
-        ensures ok { IfOk result (λ closed. AreClosed self closed.state closed.history) }
+        ensures ok { IfOk result (AreClosed self) }
         ensures err { IfErr result (λ back. back ≡ self) }
     {
         if !self.control || !all_kept(self.volumes.as_slice()) {
@@ -159,16 +162,16 @@ impl Counters {
         }
         let Counters {
             shared,
-            main,
+            mains,
             volumes,
             control,
             last,
         } = self;
         match Arc::try_unwrap(shared) {
-            Ok(SharedCounters { header: _, table }) => Ok(close_table(table, main, last)),
+            Ok(SharedCounters { header: _, tables }) => Ok(close_tables(tables, mains, last)),
             Err(shared) => Err(Counters {
                 shared,
-                main,
+                mains,
                 volumes,
                 control,
                 last,
@@ -177,30 +180,24 @@ impl Counters {
     }
 }
 
-/// Closes the words, once every pass has ended.
-fn close_table(table: PageTable, main: MainPass, last: State) -> Closed
-    requires table { IsFrom main table }
-    requires ended { (q : ℕ) → lives_in role main.seen q ≡ false }
-    requires shaped { HasShape table.facts.layout last }
-    ensures history { result.history ≡ record { facts = table.facts; events = main.seen } }
-    ensures complete { IsComplete pages result.history.facts result.history.events }
-    ensures state { result.state ≡ settled (state_after table.facts main.seen) }
+fn is_online(state: CpuState) -> bool
+    ensures { IsTrue result ↔ (state ≡ Online) }
 {
-    let mut state = last;
-    let history = table.close(main, &mut state);
-    history.is_complete();
-    Closed { state, history }
+    match state {
+        CpuState::Online => true,
+        CpuState::Dead | CpuState::Absent => false,
+    }
 }
 
 /// Whether the volumes of every CPU are kept.
-fn all_kept(volumes: &[Option<Volume>]) -> bool
+fn all_kept(volumes: &[Option<CpuVolumes>]) -> bool
     ensures { IsTrue result ↔ All IsSome volumes.now }
 {
     volumes.iter().all(|volume| volume.is_some())
 }
 
 /// Takes the volumes that are kept for a CPU.
-fn take_kept(volumes: &mut Vec<Option<Volume>>, at: usize) -> Volume
+fn take_kept(volumes: &mut Vec<Option<CpuVolumes>>, at: usize) -> CpuVolumes
     requires within { at < length volumes.old.items }
     requires kept { IsSome (slice_index_or volumes.old.items at None) }
     ensures value { slice_index_or volumes.old.items at None ≡ Some result }
@@ -212,33 +209,44 @@ fn take_kept(volumes: &mut Vec<Option<Volume>>, at: usize) -> Volume
     volume
 }
 
-/// Counters that begin with this state.
-fn open_at(alloc: Global, header: Header, pages: State) -> Result<Counters, Memory>
+/// Counters that begin with this world.
+fn open_at(alloc: Global, header: Header, world: World) -> Result<Counters, Memory>
     requires valid { IsHeader header }
-    requires base { IsBase (facts_of header pages) }
-    requires online { pages.cpu ≡ replicate header.layout.cpus Online }
-    ensures { IfOk result (AreOpenedAt header pages) }
+    requires world { IsWorldOf header world }
+    ensures { IfOk result (AreOpenedAt header world) }
 {
-    let (table, main) = PageTable::make(alloc, &header, &pages)?;
-    let volumes = first_volumes(alloc, &header.layout)?;
-    let shared = Arc::new(alloc, SharedCounters { header, table })?;
+    let (tables, mains) = Tables::make(alloc, &header, &world)?;
+    let volumes = first_volumes(alloc, &header)?;
+    let shared = Arc::new(alloc, SharedCounters { header, tables })?;
     Ok(Counters {
         shared,
-        main,
+        mains,
         volumes,
         control: true,
-        last: pages,
+        last: world,
     })
 }
 
 /// No CPU has changed anything.
-fn first_volumes(alloc: Global, layout: &Layout) -> Result<Vec<Option<Volume>>, Memory>
+fn first_volumes(alloc: Global, header: &Header) -> Result<Vec<Option<CpuVolumes>>, Memory>
     ensures { IfOk result (λ volumes. volumes.items
-        ≡ replicate layout.now.cpus (Some (replicate (counter_count layout.now) 0))) }
+        ≡ replicate header.now.layout.cpus (Some (no_volumes_of header.now))) }
 {
-    let mut volumes = Vec::with_capacity(alloc, layout.cpus() as usize)?;
-    for _cpu in 0..layout.cpus() {
-        volumes.push(Some(Row::filled(alloc, layout.counters() as usize, 0)?))?;
+    let cpus = header.layout.cpus();
+    let mut volumes = Vec::with_capacity(alloc, cpus as usize)?;
+    for _cpu in 0..cpus {
+        volumes.push(Some(no_volumes(alloc, header)?))?;
     }
     Ok(volumes)
+}
+
+/// A CPU has changed nothing.
+fn no_volumes(alloc: Global, header: &Header) -> Result<CpuVolumes, Memory>
+    ensures { IfOk result (λ volumes. volumes ≡ no_volumes_of header.now) }
+{
+    Ok(CpuVolumes {
+        page: Row::filled(alloc, header.layout.counters() as usize, 0)?,
+        event: Row::filled(alloc, EVENTS, 0)?,
+        pcpu: Row::filled(alloc, header.counters.len(), 0)?,
+    })
 }

@@ -43,7 +43,19 @@ pub enum CallError {
     /// A threshold or a mark was set 2,000,000 times.
     #[error("thresholds were set too often")]
     TooOften,
-    /// The CPU would have changed the counter by more than 2^48 pages in absolute sum.
+    /// No event has such a number: they are 0 to 7.
+    #[error("there is no event {0}")]
+    NoEvent(u32),
+    /// The header declares no such percpu counter.
+    #[error("there is no percpu counter {0}")]
+    NoPcpu(u32),
+    /// A limit, or a number that a percpu counter is compared with, is further from 0 than 2^60.
+    #[error("the number is further from 0 than 2^60")]
+    TooFar,
+    /// The CPU would have changed the counter by more than 2^48 in absolute sum: by pages, counts or amounts.
     #[error("{0}")]
     TooMuch(Overflow),
+    /// Others held the lock of the percpu counter, and the call doesn't wait.
+    #[error("others hold the counter's lock")]
+    Held,
 }

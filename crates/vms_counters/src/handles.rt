@@ -7,6 +7,7 @@ ghost use Rattle.vms_count.specs.Common.{GoesWith, owns_cpu};
 ghost use Rattle.vms_counters.specs.Calls.{Changes, IsNodeTest, IsOrderedTest, IsZoneTest, Makes, Refuses};
 ghost use Rattle.vms_counters.specs.Calls.{RefusesChange, RefusesNodeTest, RefusesOrderTest, RefusesZoneTest};
 ghost use Rattle.vms_counters.specs.Calls.{layout_of};
+ghost use Rattle.vms_counters.specs.Handles.{OnPages};
 ghost use Rattle.vms_kswapd.specs.Common.{CountsBlocks, NamesPassed};
 ghost use Rattle.vms_look.specs.Common.{HasSummed, SaysTruly, SumsTruly, TellsTruly};
 
@@ -18,16 +19,18 @@ use std::marker::Model;
 use std::sync::Arc;
 use vms_base::{CounterId, CpuId, Header, ItemId, Mode, PlaceId, WaterMark};
 use vms_calls::{Balance, OrderVerdict, Verdict};
-use vms_words::CpuPass;
+use vms_tables::CpuPasses;
 
 /// What a thread changes and reads the counters by: it owns a CPU, and may be handed from thread to thread. Contracts
-/// see in it the header, its pass, and what its CPU has changed each counter by since the counters were opened, in
-/// absolute sum. Each call makes single atomic steps, whatever other handles do meanwhile, and none waits or takes
-/// memory. A refused call makes no step.
+/// see in it which tables it is of, the header, and in each table its pass with what its CPU has changed there since
+/// the counters were opened, in absolute sum. Each call makes single atomic steps, whatever other handles do meanwhile,
+/// and none takes memory. None waits but those that are given a runtime for it. A refused call makes no step, but for
+/// one that tried a lock.
 #[derive(Drop)]
 pub struct Handle {
     pub(crate) shared: Arc<SharedCounters, Global>,
-    pub(crate) pass: CpuPass,
+    pub(crate) cpu: CpuId,
+    pub(crate) passes: CpuPasses,
 }
 
 impl Model for Handle {
@@ -36,37 +39,39 @@ impl Model for Handle {
     ghost Value = { AnyHandle };
 
     ghost use Rattle.std.specs.Arc.{arc_value};
-    ghost use Rattle.vms_counters.specs.Handles.{IsHandle};
+    ghost use Rattle.vms_counters.specs.Handles.{IsHandle, handle_of};
 
     ghost view = { λ h. record {
-      header = (arc_value h.shared).header;
-      pass = h.pass.pass;
-      volume = h.pass.volume;
+      tables = (arc_value h.shared).tables;
+      page = handle_of (arc_value h.shared).header h.passes.page.pass h.passes.page.volume;
+      event = h.passes.event;
+      pcpu = h.passes.pcpu;
     } };
 
-    ghost invariant = { λ h. IsHandle (arc_value h.shared).header (arc_value h.shared).table h.pass.pass };
+    ghost invariant = { λ h. IsHandle (arc_value h.shared).header (arc_value h.shared).tables h.cpu h.passes };
 }
 
 impl Handle {
     /// The header of the counters.
     pub fn header(&self) -> &Header
-        ensures { result.now ≡ self.now.header }
+        ensures { result.now ≡ self.now.page.header }
     {
         &self.shared.header
     }
 
     /// The CPU that the handle owns.
     pub fn cpu(&self) -> CpuId
-        ensures { self.now.pass.cpu ≡ Some result }
+        ensures { self.now.page.pass.cpu ≡ Some result }
     {
-        self.pass.cpu()
+        self.cpu
     }
 
     /// Changes a counter by a number of pages of 4096 bytes on the handle's CPU (`mod_zone_page_state` and
     /// `mod_node_page_state` of mm/vmstat.c).
     pub fn add(&mut self, counter: CounterId, pages: i64) -> Result<(), CallError>
-        ensures { MatchResult result (λ _. Changes self.new self.old counter pages Mod)
-            (RefusesChange self.new self.old counter pages) }
+        ensures made { MatchResult result (λ _. Changes self.new.page self.old.page counter pages Mod)
+            (RefusesChange self.new.page self.old.page counter pages) }
+        ensures rest { OnPages self.new self.old }
     {
         self.change(counter, pages, Mode::Mod)
     }
@@ -74,30 +79,33 @@ impl Handle {
     /// Adds a page to a counter. Past the threshold half a threshold more moves to the global value
     /// (`inc_zone_page_state` and `inc_node_page_state` of mm/vmstat.c).
     pub fn inc(&mut self, counter: CounterId) -> Result<(), CallError>
-        ensures { MatchResult result (λ _. Changes self.new self.old counter (pos 1) Inc)
-            (RefusesChange self.new self.old counter (pos 1)) }
+        ensures made { MatchResult result (λ _. Changes self.new.page self.old.page counter (pos 1) Inc)
+            (RefusesChange self.new.page self.old.page counter (pos 1)) }
+        ensures rest { OnPages self.new self.old }
     {
         self.change(counter, 1, Mode::Inc)
     }
 
     /// Takes a page from a counter, likewise (`dec_zone_page_state` and `dec_node_page_state` of mm/vmstat.c).
     pub fn dec(&mut self, counter: CounterId) -> Result<(), CallError>
-        ensures { MatchResult result (λ _. Changes self.new self.old counter (negsuc 0) Dec)
-            (RefusesChange self.new self.old counter (negsuc 0)) }
+        ensures made { MatchResult result (λ _. Changes self.new.page self.old.page counter (negsuc 0) Dec)
+            (RefusesChange self.new.page self.old.page counter (negsuc 0)) }
+        ensures rest { OnPages self.new self.old }
     {
         self.change(counter, -1, Mode::Dec)
     }
 
     fn change(&mut self, counter: CounterId, delta: i64, mode: Mode) -> Result<(), CallError>
         requires { GoesWith mode delta }
-        ensures { MatchResult result (λ _. Changes self.new self.old counter delta mode)
-            (RefusesChange self.new self.old counter delta) }
+        ensures made { MatchResult result (λ _. Changes self.new.page self.old.page counter delta mode)
+            (RefusesChange self.new.page self.old.page counter delta) }
+        ensures rest { OnPages self.new self.old }
     {
-        let table = &self.shared.table;
+        let table = &self.shared.tables.pages;
         if counter.number >= table.layout().counters() {
             return Err(CallError::NoCounter(counter.number));
         }
-        match vms_count::add(table, &mut self.pass, counter, delta, mode) {
+        match vms_count::add(table, &mut self.passes.page, counter, delta, mode) {
             Ok(()) => Ok(()),
             Err(overflow) => Err(CallError::TooMuch(overflow)),
         }
@@ -106,36 +114,40 @@ impl Handle {
     /// Folds a CPU, the handle's own or another: its differentials move to the global values (`cpu_vm_stats_fold` and
     /// `refresh_cpu_vm_stats` of mm/vmstat.c).
     pub fn fold(&mut self, cpu: CpuId) -> Result<(), CallError>
-        ensures { MatchResult result
-            (λ _. Makes (IsCpu (layout_of self.old) cpu.number)
-            (IsFold (layout_of self.old) (owns_cpu self.old.pass.cpu cpu) cpu) self.new self.old)
-            (Refuses (IsCpu (layout_of self.old) cpu.number) (CallError.NoCpu cpu.number) self.new self.old) }
+        ensures made { MatchResult result
+            (λ _. Makes (IsCpu (layout_of self.old.page) cpu.number)
+            (IsFold (layout_of self.old.page) (owns_cpu self.old.page.pass.cpu cpu) cpu) self.new.page self.old.page)
+            (Refuses (IsCpu (layout_of self.old.page) cpu.number) (CallError.NoCpu cpu.number) self.new.page
+            self.old.page) }
+        ensures rest { OnPages self.new self.old }
     {
-        looks::fold(&self.shared, &mut self.pass, cpu)
+        looks::fold(&self.shared, &mut self.passes.page, cpu)
     }
 
     /// The global value of a counter, in pages, and 0 where it is negative (`zone_page_state` of
     /// include/linux/vmstat.h and `node_page_state_pages` of mm/vmstat.c).
     pub fn value(&mut self, counter: CounterId) -> Result<u64, CallError>
-        ensures { MatchResult result
-            (λ value. Makes (IsCounter (layout_of self.old) counter.number)
-            (λ steps. IsPlaceValue counter steps value) self.new self.old)
-            (Refuses (IsCounter (layout_of self.old) counter.number) (CallError.NoCounter counter.number)
-            self.new self.old) }
+        ensures made { MatchResult result
+            (λ value. Makes (IsCounter (layout_of self.old.page) counter.number)
+            (λ steps. IsPlaceValue counter steps value) self.new.page self.old.page)
+            (Refuses (IsCounter (layout_of self.old.page) counter.number) (CallError.NoCounter counter.number)
+            self.new.page self.old.page) }
+        ensures rest { OnPages self.new self.old }
     {
-        looks::value(&self.shared, &mut self.pass, counter)
+        looks::value(&self.shared, &mut self.passes.page, counter)
     }
 
     /// The system-wide value of an item, in pages, and 0 where it is negative (`global_zone_page_state` and
     /// `global_node_page_state_pages` of include/linux/vmstat.h).
     pub fn system_value(&mut self, item: ItemId) -> Result<u64, CallError>
-        ensures { MatchResult result
-            (λ value. Makes (IsItem (layout_of self.old) item.number)
-            (λ steps. IsSystemValue item steps value) self.new self.old)
-            (Refuses (IsItem (layout_of self.old) item.number) (CallError.NoItem item.number)
-            self.new self.old) }
+        ensures made { MatchResult result
+            (λ value. Makes (IsItem (layout_of self.old.page) item.number)
+            (λ steps. IsSystemValue item steps value) self.new.page self.old.page)
+            (Refuses (IsItem (layout_of self.old.page) item.number) (CallError.NoItem item.number)
+            self.new.page self.old.page) }
+        ensures rest { OnPages self.new self.old }
     {
-        looks::system_value(&self.shared, &mut self.pass, item)
+        looks::system_value(&self.shared, &mut self.passes.page, item)
     }
 
     /// The global value of a counter with what the CPUs have not folded yet that are found online, in pages, and 0
@@ -143,13 +155,14 @@ impl Handle {
     /// others do meanwhile, is said as of `snapshot` of `vms_look`.
     pub fn snapshot(&mut self, counter: CounterId) -> Result<u64, CallError>
         ensures made { MatchResult result
-            (λ value. Makes (IsCounter (layout_of self.old) counter.number)
-            (λ steps. IsSnapshot (layout_of self.old) counter steps value) self.new self.old)
-            (Refuses (IsCounter (layout_of self.old) counter.number) (CallError.NoCounter counter.number)
-            self.new self.old) }
-        ensures truly { IfOk result (SumsTruly self.new.pass self.old.pass counter) }
+            (λ value. Makes (IsCounter (layout_of self.old.page) counter.number)
+            (λ steps. IsSnapshot (layout_of self.old.page) counter steps value) self.new.page self.old.page)
+            (Refuses (IsCounter (layout_of self.old.page) counter.number) (CallError.NoCounter counter.number)
+            self.new.page self.old.page) }
+        ensures truly { IfOk result (SumsTruly self.new.page.pass self.old.page.pass counter) }
+        ensures rest { OnPages self.new self.old }
     {
-        looks::snapshot(&self.shared, &mut self.pass, counter)
+        looks::snapshot(&self.shared, &mut self.passes.page, counter)
     }
 
     /// Tests whether a zone has more free pages than a watermark asks for, for a request that may use the zones of its
@@ -162,17 +175,19 @@ impl Handle {
         most: u32,
     ) -> Result<Verdict, CallError>
         ensures made { MatchResult result
-            (λ verdict. Makes (IsZoneTest (layout_of self.old) zone most)
-            (λ steps. IsWatermarkTest self.old.header zone mark most steps verdict) self.new self.old)
-            (RefusesZoneTest self.new self.old zone most) }
+            (λ verdict. Makes (IsZoneTest (layout_of self.old.page) zone most)
+            (λ steps. IsWatermarkTest self.old.page.header zone mark most steps verdict) self.new.page self.old.page)
+            (RefusesZoneTest self.new.page self.old.page zone most) }
         ensures near { IfOk result (λ verdict. verdict.fast ≡ true →
-            TellsTruly self.new.pass self.old.pass zone verdict.free) }
+            TellsTruly self.new.page.pass self.old.page.pass zone verdict.free) }
         ensures truly { IfOk result (λ verdict. verdict.yes ≡ true → verdict.fast ≡ true →
-            SaysTruly self.new.pass self.old.pass zone (limit_of self.old.header zone.number mark most)) }
+            SaysTruly self.new.page.pass self.old.page.pass zone
+            (limit_of self.old.page.header zone.number mark most)) }
         ensures summed { IfOk result (λ verdict. verdict.fast ≡ false →
-            SumsTruly self.new.pass self.old.pass (free_pages (layout_of self.old) zone) verdict.free) }
+            SumsTruly self.new.page.pass self.old.page.pass (free_pages (layout_of self.old.page) zone) verdict.free) }
+        ensures rest { OnPages self.new self.old }
     {
-        looks::watermark_ok(&self.shared, &mut self.pass, zone, mark, most)
+        looks::watermark_ok(&self.shared, &mut self.passes.page, zone, mark, most)
     }
 
     /// Tests whether a zone has more free pages than a watermark asks for and, above order 0, a free block of
@@ -187,19 +202,21 @@ impl Handle {
         most: u32,
     ) -> Result<OrderVerdict, CallError>
         ensures made { MatchResult result
-            (λ verdict. Makes (IsOrderedTest (layout_of self.old) zone order most)
-            (λ steps. IsOrderTest self.old.header zone mark most order steps verdict) self.new self.old)
-            (RefusesOrderTest self.new self.old zone order most) }
+            (λ verdict. Makes (IsOrderedTest (layout_of self.old.page) zone order most)
+            (λ steps. IsOrderTest self.old.page.header zone mark most order steps verdict) self.new.page self.old.page)
+            (RefusesOrderTest self.new.page self.old.page zone order most) }
         ensures near { IfOk result (λ verdict. verdict.fast ≡ true →
-            TellsTruly self.new.pass self.old.pass zone verdict.free) }
+            TellsTruly self.new.page.pass self.old.page.pass zone verdict.free) }
         ensures truly { IfOk result (λ verdict. verdict.yes ≡ true → verdict.fast ≡ true →
-            SaysTruly self.new.pass self.old.pass zone (limit_of self.old.header zone.number mark most)) }
+            SaysTruly self.new.page.pass self.old.page.pass zone
+            (limit_of self.old.page.header zone.number mark most)) }
         ensures summed { IfOk result (λ verdict. verdict.fast ≡ false →
-            HasSummed self.new.pass self.old.pass (free_pages (layout_of self.old) zone) verdict.free) }
+            HasSummed self.new.page.pass self.old.page.pass (free_pages (layout_of self.old.page) zone) verdict.free) }
         ensures counts { IfOk result (λ verdict. verdict.yes ≡ true → order ≢ 0 →
-            CountsBlocks self.old.header self.new.pass self.old.pass zone order verdict.area) }
+            CountsBlocks self.old.page.header self.new.page.pass self.old.page.pass zone order verdict.area) }
+        ensures rest { OnPages self.new self.old }
     {
-        looks::zone_ok(&self.shared, &mut self.pass, zone, mark, order, most)
+        looks::zone_ok(&self.shared, &mut self.passes.page, zone, mark, order, most)
     }
 
     /// Tests whether a node is balanced for an order (`pgdat_balanced` of mm/vmscan.c): its zones up to the zone index
@@ -207,11 +224,13 @@ impl Handle {
     /// as of `balanced` of `vms_kswapd`.
     pub fn balanced(&mut self, node: PlaceId, order: u32, most: u32) -> Result<Balance, CallError>
         ensures made { MatchResult result
-            (λ balance. Makes (IsNodeTest (layout_of self.old) node order most)
-            (λ steps. IsBalanceTest self.old.header node order most steps balance) self.new self.old)
-            (RefusesNodeTest self.new self.old node order most) }
-        ensures passed { IfOk result (NamesPassed self.old.header self.new.pass self.old.pass node order most) }
+            (λ balance. Makes (IsNodeTest (layout_of self.old.page) node order most)
+            (λ steps. IsBalanceTest self.old.page.header node order most steps balance) self.new.page self.old.page)
+            (RefusesNodeTest self.new.page self.old.page node order most) }
+        ensures passed { IfOk result (NamesPassed self.old.page.header self.new.page.pass self.old.page.pass node order
+            most) }
+        ensures rest { OnPages self.new self.old }
     {
-        looks::balanced(&self.shared, &mut self.pass, node, order, most)
+        looks::balanced(&self.shared, &mut self.passes.page, node, order, most)
     }
 }

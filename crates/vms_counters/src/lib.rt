@@ -1,16 +1,23 @@
-//! Page counters that a program opens, changes and closes through handles, each of which owns a CPU. No call asks its
-//! caller for facts about histories: the types keep what the calls below need.
+//! Counters of pages, of events and of things that CPUs count apart, which a program opens, changes and closes through
+//! handles, each of which owns a CPU. No call asks its caller for facts about histories: the types keep what the calls
+//! below need.
 #![tactic(auto)]
 
+mod closing;
 mod control_handles;
+mod control_passes;
 mod counters;
 mod errors;
+mod event_calls;
 mod handles;
 mod looks;
+mod passes;
+mod pcpu_calls;
 mod rating;
 mod shared;
 
+pub use closing::Closed;
 pub use control_handles::ControlHandle;
-pub use counters::{Closed, Counters};
+pub use counters::Counters;
 pub use errors::{BeginError, CallError};
 pub use handles::Handle;

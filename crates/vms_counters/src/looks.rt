@@ -25,18 +25,18 @@ pub(crate) fn fold<P: Caller>(
     pass: &mut P,
     cpu: CpuId,
 ) -> Result<(), CallError>
-    requires { IsBetweenCalls shared.now.table (P.pass pass.old) }
-    ensures between { IsBetweenCalls shared.now.table (P.pass pass.new) }
+    requires { IsBetweenCalls shared.now.tables.pages (P.pass pass.old) }
+    ensures between { IsBetweenCalls shared.now.tables.pages (P.pass pass.new) }
     ensures made { MatchResult result
-        (λ _. Makes (IsCpu shared.now.table.facts.layout cpu.number)
-        (IsFold shared.now.table.facts.layout (owns_cpu (P.pass pass.old).cpu cpu) cpu)
+        (λ _. Makes (IsCpu shared.now.tables.pages.facts.layout cpu.number)
+        (IsFold shared.now.tables.pages.facts.layout (owns_cpu (P.pass pass.old).cpu cpu) cpu)
         (handle_of shared.now.header (P.pass pass.new) (P.volume pass.new))
         (handle_of shared.now.header (P.pass pass.old) (P.volume pass.old)))
-        (Refuses (IsCpu shared.now.table.facts.layout cpu.number) (CallError.NoCpu cpu.number)
+        (Refuses (IsCpu shared.now.tables.pages.facts.layout cpu.number) (CallError.NoCpu cpu.number)
         (handle_of shared.now.header (P.pass pass.new) (P.volume pass.new))
         (handle_of shared.now.header (P.pass pass.old) (P.volume pass.old))) }
 {
-    let table = &shared.table;
+    let table = &shared.tables.pages;
     if cpu.number >= table.layout().cpus() {
         return Err(CallError::NoCpu(cpu.number));
     }
@@ -50,19 +50,19 @@ pub(crate) fn value<P: Caller>(
     pass: &mut P,
     counter: CounterId,
 ) -> Result<u64, CallError>
-    requires { IsBetweenCalls shared.now.table (P.pass pass.old) }
-    ensures between { IsBetweenCalls shared.now.table (P.pass pass.new) }
+    requires { IsBetweenCalls shared.now.tables.pages (P.pass pass.old) }
+    ensures between { IsBetweenCalls shared.now.tables.pages (P.pass pass.new) }
     ensures made { MatchResult result
-        (λ value. Makes (IsCounter shared.now.table.facts.layout counter.number)
+        (λ value. Makes (IsCounter shared.now.tables.pages.facts.layout counter.number)
         (λ steps. IsPlaceValue counter steps value)
         (handle_of shared.now.header (P.pass pass.new) (P.volume pass.new))
         (handle_of shared.now.header (P.pass pass.old) (P.volume pass.old)))
-        (Refuses (IsCounter shared.now.table.facts.layout counter.number) (CallError.NoCounter counter.number)
+        (Refuses (IsCounter shared.now.tables.pages.facts.layout counter.number) (CallError.NoCounter counter.number)
         (handle_of shared.now.header (P.pass pass.new) (P.volume pass.new))
         (handle_of shared.now.header (P.pass pass.old) (P.volume pass.old))) }
 {
     looks_leave_their_caller();
-    let table = &shared.table;
+    let table = &shared.tables.pages;
     if counter.number >= table.layout().counters() {
         return Err(CallError::NoCounter(counter.number));
     }
@@ -75,19 +75,19 @@ pub(crate) fn system_value<P: Caller>(
     pass: &mut P,
     item: ItemId,
 ) -> Result<u64, CallError>
-    requires { IsBetweenCalls shared.now.table (P.pass pass.old) }
-    ensures between { IsBetweenCalls shared.now.table (P.pass pass.new) }
+    requires { IsBetweenCalls shared.now.tables.pages (P.pass pass.old) }
+    ensures between { IsBetweenCalls shared.now.tables.pages (P.pass pass.new) }
     ensures made { MatchResult result
-        (λ value. Makes (IsItem shared.now.table.facts.layout item.number)
+        (λ value. Makes (IsItem shared.now.tables.pages.facts.layout item.number)
         (λ steps. IsSystemValue item steps value)
         (handle_of shared.now.header (P.pass pass.new) (P.volume pass.new))
         (handle_of shared.now.header (P.pass pass.old) (P.volume pass.old)))
-        (Refuses (IsItem shared.now.table.facts.layout item.number) (CallError.NoItem item.number)
+        (Refuses (IsItem shared.now.tables.pages.facts.layout item.number) (CallError.NoItem item.number)
         (handle_of shared.now.header (P.pass pass.new) (P.volume pass.new))
         (handle_of shared.now.header (P.pass pass.old) (P.volume pass.old))) }
 {
     looks_leave_their_caller();
-    let table = &shared.table;
+    let table = &shared.tables.pages;
     if item.number >= table.layout().items() {
         return Err(CallError::NoItem(item.number));
     }
@@ -100,20 +100,20 @@ pub(crate) fn snapshot<P: Caller>(
     pass: &mut P,
     counter: CounterId,
 ) -> Result<u64, CallError>
-    requires { IsBetweenCalls shared.now.table (P.pass pass.old) }
-    ensures between { IsBetweenCalls shared.now.table (P.pass pass.new) }
+    requires { IsBetweenCalls shared.now.tables.pages (P.pass pass.old) }
+    ensures between { IsBetweenCalls shared.now.tables.pages (P.pass pass.new) }
     ensures made { MatchResult result
-        (λ value. Makes (IsCounter shared.now.table.facts.layout counter.number)
-        (λ steps. IsSnapshot shared.now.table.facts.layout counter steps value)
+        (λ value. Makes (IsCounter shared.now.tables.pages.facts.layout counter.number)
+        (λ steps. IsSnapshot shared.now.tables.pages.facts.layout counter steps value)
         (handle_of shared.now.header (P.pass pass.new) (P.volume pass.new))
         (handle_of shared.now.header (P.pass pass.old) (P.volume pass.old)))
-        (Refuses (IsCounter shared.now.table.facts.layout counter.number) (CallError.NoCounter counter.number)
+        (Refuses (IsCounter shared.now.tables.pages.facts.layout counter.number) (CallError.NoCounter counter.number)
         (handle_of shared.now.header (P.pass pass.new) (P.volume pass.new))
         (handle_of shared.now.header (P.pass pass.old) (P.volume pass.old))) }
     ensures truly { IfOk result (SumsTruly (P.pass pass.new) (P.pass pass.old) counter) }
 {
     looks_leave_their_caller();
-    let table = &shared.table;
+    let table = &shared.tables.pages;
     if counter.number >= table.layout().counters() {
         return Err(CallError::NoCounter(counter.number));
     }
@@ -128,10 +128,10 @@ pub(crate) fn watermark_ok<P: Caller>(
     mark: WaterMark,
     most: u32,
 ) -> Result<Verdict, CallError>
-    requires { IsBetweenCalls shared.now.table (P.pass pass.old) }
-    ensures between { IsBetweenCalls shared.now.table (P.pass pass.new) }
+    requires { IsBetweenCalls shared.now.tables.pages (P.pass pass.old) }
+    ensures between { IsBetweenCalls shared.now.tables.pages (P.pass pass.new) }
     ensures made { MatchResult result
-        (λ verdict. Makes (IsZoneTest shared.now.table.facts.layout zone most)
+        (λ verdict. Makes (IsZoneTest shared.now.tables.pages.facts.layout zone most)
         (λ steps. IsWatermarkTest shared.now.header zone mark most steps verdict)
         (handle_of shared.now.header (P.pass pass.new) (P.volume pass.new))
         (handle_of shared.now.header (P.pass pass.old) (P.volume pass.old)))
@@ -142,10 +142,12 @@ pub(crate) fn watermark_ok<P: Caller>(
     ensures truly { IfOk result (λ verdict. verdict.yes ≡ true → verdict.fast ≡ true →
         SaysTruly (P.pass pass.new) (P.pass pass.old) zone (limit_of shared.now.header zone.number mark most)) }
     ensures summed { IfOk result (λ verdict. verdict.fast ≡ false →
-        SumsTruly (P.pass pass.new) (P.pass pass.old) (free_pages shared.now.table.facts.layout zone) verdict.free) }
+        SumsTruly (P.pass pass.new) (P.pass pass.old) (free_pages shared.now.tables.pages.facts.layout zone)
+        verdict.free) }
 {
     looks_leave_their_caller();
-    let SharedCounters { header, table } = shared;
+    let SharedCounters { header, tables } = shared;
+    let table = &tables.pages;
     if zone.number as usize >= table.layout().zones().len() {
         return Err(CallError::NoZone(zone.number));
     }
@@ -164,11 +166,11 @@ pub(crate) fn zone_ok<P: Caller>(
     order: u32,
     most: u32,
 ) -> Result<OrderVerdict, CallError>
-    requires between { IsBetweenCalls shared.now.table (P.pass pass.old) }
+    requires between { IsBetweenCalls shared.now.tables.pages (P.pass pass.old) }
     requires header { IsHeader shared.now.header }
-    ensures between { IsBetweenCalls shared.now.table (P.pass pass.new) }
+    ensures between { IsBetweenCalls shared.now.tables.pages (P.pass pass.new) }
     ensures made { MatchResult result
-        (λ verdict. Makes (IsOrderedTest shared.now.table.facts.layout zone order most)
+        (λ verdict. Makes (IsOrderedTest shared.now.tables.pages.facts.layout zone order most)
         (λ steps. IsOrderTest shared.now.header zone mark most order steps verdict)
         (handle_of shared.now.header (P.pass pass.new) (P.volume pass.new))
         (handle_of shared.now.header (P.pass pass.old) (P.volume pass.old)))
@@ -179,12 +181,14 @@ pub(crate) fn zone_ok<P: Caller>(
     ensures truly { IfOk result (λ verdict. verdict.yes ≡ true → verdict.fast ≡ true →
         SaysTruly (P.pass pass.new) (P.pass pass.old) zone (limit_of shared.now.header zone.number mark most)) }
     ensures summed { IfOk result (λ verdict. verdict.fast ≡ false →
-        HasSummed (P.pass pass.new) (P.pass pass.old) (free_pages shared.now.table.facts.layout zone) verdict.free) }
+        HasSummed (P.pass pass.new) (P.pass pass.old) (free_pages shared.now.tables.pages.facts.layout zone)
+        verdict.free) }
     ensures counts { IfOk result (λ verdict. verdict.yes ≡ true → order ≢ 0 →
         CountsBlocks shared.now.header (P.pass pass.new) (P.pass pass.old) zone order verdict.area) }
 {
     looks_leave_their_caller();
-    let SharedCounters { header, table } = shared;
+    let SharedCounters { header, tables } = shared;
+    let table = &tables.pages;
     if zone.number as usize >= table.layout().zones().len() {
         return Err(CallError::NoZone(zone.number));
     }
@@ -205,11 +209,11 @@ pub(crate) fn balanced<P: Caller>(
     order: u32,
     most: u32,
 ) -> Result<Balance, CallError>
-    requires between { IsBetweenCalls shared.now.table (P.pass pass.old) }
+    requires between { IsBetweenCalls shared.now.tables.pages (P.pass pass.old) }
     requires header { IsHeader shared.now.header }
-    ensures between { IsBetweenCalls shared.now.table (P.pass pass.new) }
+    ensures between { IsBetweenCalls shared.now.tables.pages (P.pass pass.new) }
     ensures made { MatchResult result
-        (λ balance. Makes (IsNodeTest shared.now.table.facts.layout node order most)
+        (λ balance. Makes (IsNodeTest shared.now.tables.pages.facts.layout node order most)
         (λ steps. IsBalanceTest shared.now.header node order most steps balance)
         (handle_of shared.now.header (P.pass pass.new) (P.volume pass.new))
         (handle_of shared.now.header (P.pass pass.old) (P.volume pass.old)))
@@ -218,7 +222,8 @@ pub(crate) fn balanced<P: Caller>(
     ensures passed { IfOk result (NamesPassed shared.now.header (P.pass pass.new) (P.pass pass.old) node order most) }
 {
     looks_leave_their_caller();
-    let SharedCounters { header, table } = shared;
+    let SharedCounters { header, tables } = shared;
+    let table = &tables.pages;
     check_node(table.layout(), node)?;
     if order > 10 {
         return Err(CallError::NoOrder(order));

@@ -2,7 +2,7 @@ ghost use Rattle.std.specs.Prelude.{◌≡◌, IfOk, MatchResult, None, []};
 ghost use Rattle.vms_world.specs.Common.{IsNode, ByNormal, ByPressure, IsTurn, Refreshes, SetsNormal, SetsPressure};
 ghost use Rattle.vms_control.specs.SettledMarks.{SettlesAll, SettlesNode};
 ghost use Rattle.vms_counters.specs.Calls.{IsNodeTest, Makes, RefusesRating, RefusesRefresh, RefusesTurn};
-ghost use Rattle.vms_counters.specs.Handles.{IsControlHandle, handle_of};
+ghost use Rattle.vms_counters.specs.Handles.{IsControlPass, handle_of};
 ghost use Rattle.vms_kswapd.specs.Common.{NamesPassed};
 
 use crate::errors::CallError;
@@ -23,18 +23,21 @@ pub(crate) fn set_pressure<N: Rule, P: Rule>(
     rules: &Rules<N, P>,
     node: PlaceId,
 ) -> Result<(), CallError>
-    requires { IsControlHandle shared.now.header shared.now.table pass.old }
-    ensures between { IsControlHandle shared.now.header shared.now.table pass.new }
+    requires { IsControlPass shared.now.header shared.now.tables.pages pass.old }
+    ensures between { IsControlPass shared.now.header shared.now.tables.pages pass.new }
     ensures made { MatchResult result
-        (λ _. Makes (IsNode shared.now.table.facts.layout node.number)
-        (λ steps. SetsPressure shared.now.table.facts (P.answers rules.now.pressure) (N.answers rules.now.normal) node
+        (λ _. Makes (IsNode shared.now.tables.pages.facts.layout node.number)
+        (λ steps. SetsPressure shared.now.tables.pages.facts (P.answers rules.now.pressure) (N.answers rules.now.normal)
+        node
         pass.old.number pass.old.seen steps)
         (handle_of shared.now.header pass.new []) (handle_of shared.now.header pass.old []))
         (RefusesRating 0 (handle_of shared.now.header pass.new []) (handle_of shared.now.header pass.old []) node) }
-    ensures marks { IfOk result (λ _. SettlesNode shared.now.table.facts (ByPressure (P.answers rules.now.pressure)
+    ensures marks { IfOk result (λ _. SettlesNode shared.now.tables.pages.facts (ByPressure (P.answers
+        rules.now.pressure)
         (N.answers rules.now.normal)) node pass.new pass.old) }
 {
-    let SharedCounters { header, table } = shared;
+    let SharedCounters { header, tables } = shared;
+    let table = &tables.pages;
     check_node(table.layout(), node)?;
     if table.most_sets(pass) >= MOST_SETS {
         return Err(CallError::TooOften);
@@ -50,18 +53,21 @@ pub(crate) fn set_normal<N: Rule, P: Rule>(
     rules: &Rules<N, P>,
     node: PlaceId,
 ) -> Result<(), CallError>
-    requires { IsControlHandle shared.now.header shared.now.table pass.old }
-    ensures between { IsControlHandle shared.now.header shared.now.table pass.new }
+    requires { IsControlPass shared.now.header shared.now.tables.pages pass.old }
+    ensures between { IsControlPass shared.now.header shared.now.tables.pages pass.new }
     ensures made { MatchResult result
-        (λ _. Makes (IsNode shared.now.table.facts.layout node.number)
-        (λ steps. SetsNormal shared.now.table.facts (N.answers rules.now.normal) node pass.old.number pass.old.seen
+        (λ _. Makes (IsNode shared.now.tables.pages.facts.layout node.number)
+        (λ steps. SetsNormal shared.now.tables.pages.facts (N.answers rules.now.normal) node pass.old.number
+        pass.old.seen
         steps)
         (handle_of shared.now.header pass.new []) (handle_of shared.now.header pass.old []))
         (RefusesRating 0 (handle_of shared.now.header pass.new []) (handle_of shared.now.header pass.old []) node) }
-    ensures marks { IfOk result (λ _. SettlesNode shared.now.table.facts (ByNormal (N.answers rules.now.normal)) node
+    ensures marks { IfOk result (λ _. SettlesNode shared.now.tables.pages.facts (ByNormal (N.answers rules.now.normal))
+        node
         pass.new pass.old) }
 {
-    let SharedCounters { header, table } = shared;
+    let SharedCounters { header, tables } = shared;
+    let table = &tables.pages;
     check_node(table.layout(), node)?;
     if table.most_sets(pass) >= MOST_SETS {
         return Err(CallError::TooOften);
@@ -76,17 +82,19 @@ pub(crate) fn refresh_thresholds<N: Rule, P: Rule>(
     pass: &mut ControlPass,
     rules: &Rules<N, P>,
 ) -> Result<(), CallError>
-    requires { IsControlHandle shared.now.header shared.now.table pass.old }
-    ensures between { IsControlHandle shared.now.header shared.now.table pass.new }
+    requires { IsControlPass shared.now.header shared.now.tables.pages pass.old }
+    ensures between { IsControlPass shared.now.header shared.now.tables.pages pass.new }
     ensures made { MatchResult result
         (λ _. Makes (Unit {0})
-        (λ steps. Refreshes shared.now.table.facts (N.answers rules.now.normal) pass.old.number pass.old.seen steps)
+        (λ steps. Refreshes shared.now.tables.pages.facts (N.answers rules.now.normal) pass.old.number pass.old.seen
+        steps)
         (handle_of shared.now.header pass.new []) (handle_of shared.now.header pass.old []))
         (RefusesRefresh (handle_of shared.now.header pass.new []) (handle_of shared.now.header pass.old [])) }
-    ensures marks { IfOk result (λ _. SettlesAll shared.now.table.facts (N.answers rules.now.normal) pass.new
+    ensures marks { IfOk result (λ _. SettlesAll shared.now.tables.pages.facts (N.answers rules.now.normal) pass.new
         pass.old) }
 {
-    let SharedCounters { header, table } = shared;
+    let SharedCounters { header, tables } = shared;
+    let table = &tables.pages;
     if table.most_sets(pass) >= MOST_SETS {
         return Err(CallError::TooOften);
     }
@@ -103,18 +111,19 @@ pub(crate) fn kswapd_turn<N: Rule, P: Rule>(
     order: u32,
     most: u32,
 ) -> Result<Balance, CallError>
-    requires { IsControlHandle shared.now.header shared.now.table pass.old }
-    ensures between { IsControlHandle shared.now.header shared.now.table pass.new }
+    requires { IsControlPass shared.now.header shared.now.tables.pages pass.old }
+    ensures between { IsControlPass shared.now.header shared.now.tables.pages pass.new }
     ensures made { MatchResult result
-        (λ balance. Makes (IsNodeTest shared.now.table.facts.layout node order most)
-        (λ steps. IsTurn shared.now.header shared.now.table.facts.base (P.answers rules.now.pressure)
+        (λ balance. Makes (IsNodeTest shared.now.tables.pages.facts.layout node order most)
+        (λ steps. IsTurn shared.now.header shared.now.tables.pages.facts.base (P.answers rules.now.pressure)
         (N.answers rules.now.normal) node order most pass.old.number pass.old.seen steps balance)
         (handle_of shared.now.header pass.new []) (handle_of shared.now.header pass.old []))
         (RefusesTurn (handle_of shared.now.header pass.new []) (handle_of shared.now.header pass.old []) node order
         most) }
     ensures passed { IfOk result (NamesPassed shared.now.header pass.new pass.old node order most) }
 {
-    let SharedCounters { header, table } = shared;
+    let SharedCounters { header, tables } = shared;
+    let table = &tables.pages;
     check_node(table.layout(), node)?;
     if order > 10 {
         return Err(CallError::NoOrder(order));

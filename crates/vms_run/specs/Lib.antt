@@ -1,4 +1,5 @@
 pub mod Threads
+pub mod Rules
 pub mod RunPhases
 pub mod Runners
 pub mod MadeTexts

@@ -52,11 +52,6 @@ pub record RunsPhases (accepts : Header → World → List Item → Type 0)
   pub runs : (header : Header) (w : World) (items : List Item) (result : Result PhaseDone Memory) → IsHeader header
       → MayRun header w items → returns header w items result → IfOk result (IsRun header w items)
 
--- an engine has a runner and the phases that were made
-pub record Running (F : Type 0) : Type 0 where
-  pub runner : F
-  pub made : List PastPhase
-
 -- a phase of these lines was run from a world, of which its tables were told, and leaves another; what its lines
 -- answered was told
 pub record IsOneRun (header : Header) (w : World) (items : List Item) (Told : List NumberedAnswer → Type 0)

@@ -7,13 +7,15 @@ mod memos;
 mod run_phases;
 mod runners;
 mod running;
+mod scoped;
+mod standing;
 mod threads;
 mod tool;
 
 pub use handing::hand_on;
 pub use memos::Memo;
 pub use run_phases::{Histories, RunPhase};
-pub use runners::PhaseRunner;
+pub use runners::{PhaseMaker, PhaseRunner};
 pub use threads::OnThreads;
 pub use tool::{tool_gen, tool_run};
 pub use vms_phase::{Gate, OpenGate};

@@ -37,3 +37,20 @@ impl<F: Fn(&Header, World, &PhaseScript) -> Result<PhaseDone, Memory>> PhaseRunn
         self(header, world, script)
     }
 }
+
+ghost use Rattle.std.specs.Prelude.{IfOk};
+ghost use Rattle.vms_world.specs.Common.{IsHeader};
+ghost use Rattle.vms_run.specs.Runners.{IsRun, MayRun};
+
+/// What runs the phases of a trace one after another, and keeps what it needs from one to the next.
+pub trait PhaseMaker: Drop {
+    fn make(
+        &mut self,
+        header: &Header,
+        world: World,
+        script: &PhaseScript,
+    ) -> Result<PhaseDone, Memory>
+        requires header { IsHeader header.now }
+        requires start { MayRun header.now world script.now }
+        ensures { IfOk result (IsRun header.now world script.now) };
+}

@@ -1,6 +1,6 @@
 use crate::handing::hand_on;
 use crate::run_phases::{Histories, RunPhase};
-use crate::{Memo, PhaseRunner};
+use crate::{Memo, PhaseMaker};
 use std::alloc::Global;
 use std::marker::Model;
 use vms_base::{Header, Memory};
@@ -11,52 +11,49 @@ use vms_world::World;
 
 /// The engine that has each phase run, with a thread for each lane that has lines, and keeps the phases.
 #[derive(Drop)]
-pub struct OnThreads<F: PhaseRunner> {
-    runner: F,
+pub struct OnThreads<F: PhaseMaker> {
+    maker: F,
     histories: Histories,
 }
 
-impl<F: PhaseRunner> Model for OnThreads<F> {
-    ghost use Rattle.vms_run.specs.Runners.{Running, RunsPhases};
+impl<F: PhaseMaker> Model for OnThreads<F> {
+    ghost use Rattle.std.specs.Prelude.{List};
+    ghost use Rattle.vms_replay.specs.Common.{PastPhase};
 
-    ghost Value = { Running F };
+    ghost Value = { List PastPhase };
 
-    ghost view = { λ engine. record { runner = engine.runner; made = engine.histories } };
-
-    ghost invariant = { λ engine. RunsPhases (F.accepts engine.runner) (F.returns engine.runner) };
+    ghost view = { λ engine. engine.histories };
 }
 
-impl<F: PhaseRunner> OnThreads<F> {
+impl<F: PhaseMaker> OnThreads<F> {
     ghost use Rattle.std.specs.Prelude.{◌≡◌};
-    ghost use Rattle.vms_run.specs.Runners.{RunsPhases};
 
-    /// The engine of this runner, after these phases.
-    pub fn make(runner: F, histories: Histories) -> OnThreads<F>
-        requires { RunsPhases (F.accepts runner) (F.returns runner) }
-        ensures { result ≡ record { runner = runner; made = histories } }
+    /// The engine of this maker, after these phases.
+    pub fn make(maker: F, histories: Histories) -> OnThreads<F>
+        ensures { result ≡ histories }
     {
-        OnThreads { runner, histories }
+        OnThreads { maker, histories }
     }
 
     /// The phases that were made.
     pub fn into_histories(self) -> Histories
-        ensures { result ≡ self.made }
+        ensures { result ≡ self }
     {
         let OnThreads {
-            runner: _,
+            maker: _,
             histories,
         } = self;
         histories
     }
 }
 
-impl<F: PhaseRunner> Engine for OnThreads<F> {
+impl<F: PhaseMaker> Engine for OnThreads<F> {
     ghost use Rattle.std.specs.Prelude.{Some};
     ghost use Rattle.vms_run.specs.Threads.{makes_on_threads};
 
     ghost Makes = { makes_on_threads };
 
-    ghost made = { λ engine. Some engine.made };
+    ghost made = { λ engine. Some engine };
 
     fn makes_lines() {}
 
@@ -68,7 +65,7 @@ impl<F: PhaseRunner> Engine for OnThreads<F> {
         script: &PhaseScript,
         printer: &mut WaitPrinter,
     ) -> Result<World, Memory> {
-        let made = run_one(&self.runner, alloc, world, header, script, printer);
+        let made = run_one(&mut self.maker, alloc, world, header, script, printer);
         self.histories.keep(made)
     }
 }
@@ -76,18 +73,17 @@ impl<F: PhaseRunner> Engine for OnThreads<F> {
 ghost use Rattle.std.specs.Prelude.{IfOk};
 ghost use Rattle.vms_world.specs.Common.{IsHeader};
 ghost use Rattle.vms_replay.specs.Common.{Prints};
-ghost use Rattle.vms_run.specs.Runners.{IsOneRun, MayRun, RunsPhases};
+ghost use Rattle.vms_run.specs.Runners.{IsOneRun, MayRun};
 
 /// Has a phase run, and hands on what its lines answered. Returns the world that it leaves, and the phase.
-fn run_one<F: PhaseRunner>(
-    runner: &F,
+fn run_one<F: PhaseMaker>(
+    maker: &mut F,
     alloc: Global,
     world: World,
     header: &Header,
     script: &PhaseScript,
     printer: &mut WaitPrinter,
 ) -> Result<(World, RunPhase), Memory>
-    requires runner { RunsPhases (F.accepts runner.now) (F.returns runner.now) }
     requires header { IsHeader header.now }
     requires may { MayRun header.now world script.now }
     ensures { IfOk result (λ made. IsOneRun header.now world script.now
@@ -99,7 +95,7 @@ fn run_one<F: PhaseRunner>(
         world,
         lanes,
         histories,
-    } = runner.run(header, world, script)?;
+    } = maker.make(header, world, script)?;
     hand_on(alloc, header, script.as_slice(), lanes.as_slice(), printer)?;
     let phase = RunPhase {
         world: before,

@@ -1,5 +1,6 @@
 ghost use Rattle.vms_calls.specs.Common.{IsThresholdRule};
 
+use crate::machines::read_header;
 use std::alloc::Global;
 use std::sync::atomic::{AtomicU64, Ordering};
 use std::test::Fail;
@@ -8,7 +9,6 @@ use vms_base::{CounterId, CpuId, PlaceId, WaterMark, ZoneSize};
 use vms_calc::{Rule, Rules, normal_threshold, pressure_threshold};
 use vms_calls::Verdict;
 use vms_counters::{CallError, Counters, Handle};
-use vms_header::parse_header;
 
 /// Two CPUs and two zones of a node. The first zone keeps a 256th of the second one's pages, 14,850, from requests that
 /// may use both.
@@ -67,11 +67,7 @@ fn opened_by<N: Rule, P: Rule>(alloc: Global, normal: N, pressure: P) -> Result<
     requires normal { IsThresholdRule (N.accepts normal) (N.answers normal) }
     requires pressure { IsThresholdRule (P.accepts pressure) (P.answers pressure) }
 {
-    let text = TWO_ZONES.as_bytes();
-    if text.len() > 1 << 26 {
-        return Err(Fail::new("no header is as long as this text"));
-    }
-    let (header, _lines, _bytes) = parse_header(alloc, text)?;
+    let header = read_header(alloc, TWO_ZONES)?;
     Ok(Counters::open(alloc, header, &Rules::make(normal, pressure))?)
 }
 
@@ -114,16 +110,15 @@ fn inc_openly(mut handle: Handle, progress: &Progress, rounds: u32) -> Result<()
     Ok(())
 }
 
-/// One thread adds pages and tests after each of them, and another adds pages. Tells how the tests came out.
+/// One thread adds pages by the first handle and tests after each of them, and another adds pages by the second. Tells
+/// how the tests came out.
 fn tests_beside_changes<R: Threads + Sync>(
     rt: &R,
-    alloc: Global,
+    first: Handle,
+    second: Handle,
     rounds: u32,
     others: u32,
-) -> Result<Tally, Fail> {
-    let mut counters = opened(alloc)?;
-    let first = counters.begin(CpuId { number: 0 })?;
-    let second = counters.begin(CpuId { number: 1 })?;
+) -> Result<Tally, CallError> {
     let progress = Progress {
         begun: AtomicU64::new(0),
         added: AtomicU64::new(0),
@@ -135,14 +130,29 @@ fn tests_beside_changes<R: Threads + Sync>(
         move || { inc_openly(second, known, others) },
     );
     added?;
-    Ok(tally?)
+    tally
+}
+
+/// The same by two handles of these counters.
+fn tally_by<R: Threads + Sync>(
+    rt: &R,
+    counters: &mut Counters,
+    rounds: u32,
+    others: u32,
+) -> Result<Tally, Fail> {
+    let first = counters.begin(CpuId { number: 0 })?;
+    let second = counters.begin(CpuId { number: 1 })?;
+    Ok(tests_beside_changes(rt, first, second, rounds, others)?)
 }
 
 /// Both kinds of answer come in any order of the threads: with 4,900 pages of its own the tester knows of at most
 /// 14,900, and with all its pages of at least 20,000.
 #[test]
 fn answers_are_near_the_truth(rt: HostRuntime) -> Result<(), Fail> {
-    let tally = tests_beside_changes(&rt, rt.alloc(), 20_000, 10_000)?;
+    let mut counters = opened(rt.alloc())?;
+    let told = tally_by(&rt, &mut counters, 20_000, 10_000);
+    drop(counters);
+    let tally = told?;
     assert_eq!(rt; tally.far, 0, "answers too far from the truth");
     assert!(rt; tally.no >= 4_000, "{} answers no", tally.no);
     assert!(rt; tally.yes >= 1, "no answer yes");

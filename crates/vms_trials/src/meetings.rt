@@ -84,7 +84,7 @@ impl Gate for Meeting {
     }
 }
 
-/// Two lanes of two lines each after `LANES`, and the second line of each.
+/// Lanes after `LANES`, and the second line of two of them in their last phase.
 struct Row<'a> {
     name: &'a str,
     body: &'a str,
@@ -92,7 +92,7 @@ struct Row<'a> {
     second: Stop,
 }
 
-static ROWS: [Row<'static>; 3] = [
+static ROWS: [Row<'static>; 5] = [
     Row {
         name: "the lanes of two CPUs, line by line",
         body: "c0 inc 0 Normal nr_mlock
@@ -122,6 +122,34 @@ k normal 0
 ",
         first: Stop { lane: 0, line: 10 },
         second: Stop { lane: 2, line: 11 },
+    },
+    Row {
+        name: "the lanes of two CPUs, in the second phase",
+        body: "c0 inc 0 Normal nr_mlock
+c1 inc 0 Normal nr_mlock
+sync
+c0 inc 0 Normal nr_mlock
+c1 inc 0 Normal nr_mlock
+c0 fold 1
+c1 fold 0
+",
+        first: Stop { lane: 0, line: 13 },
+        second: Stop { lane: 1, line: 14 },
+    },
+    Row {
+        name: "the lane of a CPU and the control lane, in the third phase",
+        body: "c0 inc 0 Normal nr_mlock
+sync
+c0 inc 0 Normal nr_mlock
+c1 inc 0 Normal nr_mlock
+sync
+c1 inc 0 Normal nr_mlock
+k pressure 0
+c1 fold 0
+k normal 0
+",
+        first: Stop { lane: 1, line: 15 },
+        second: Stop { lane: 2, line: 16 },
     },
 ];
 

@@ -2,3 +2,5 @@ mod LooseWords
 mod HandleWords
 mod ControlWords
 mod CountersWords
+mod KernelRules
+mod KernelCalls

@@ -2,5 +2,8 @@ pub mod Owning
 pub mod Statuses
 pub mod Calls
 pub mod HandleCalls
+pub mod OrderCalls
+pub mod EventCalls
 pub mod Openings
+pub mod ControlCalls
 pub mod Lookups

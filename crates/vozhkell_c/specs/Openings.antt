@@ -3,8 +3,8 @@ use Rattle.std.specs.Prelude.{◌≡◌, ◌⊎◌, ℕ, ◌^◌, ◌<◌, ◌�
 use Rattle.vms_header.specs.Common.{ReadsHeader}
 use Rattle.vms_header.specs.declared.causes.HeaderError.{HeaderError}
 use Rattle.vms_header.specs.declared.causes.HeaderError.TheVariants.{Bad, Memory}
-use Rattle.vms_seats.specs.Common.{Phase}
-use Rattle.vms_world.specs.Common.{Facts, Header, IsValidSize, State, Step, ZoneSize, normal_threshold_of}
+use Rattle.vms_world.specs.Common.{Header, IsValidSize, ZoneSize, normal_threshold_of, pressure_threshold_of}
+use Rattle.vms_counters.specs.declared.closing.Closed.{Closed}
 use Rattle.vms_counters.specs.Handles.{AnyHandle}
 use Rattle.vms_counters.specs.Opened.{AreClosed, AreOpened, IsOf, Opened}
 use Rattle.vms_counters.specs.declared.errors.BeginError.{BeginError}
@@ -15,9 +15,16 @@ use Rattle.vozhkell_c.specs.Statuses.{no_memory, null}
 abbrev pub normal_rule : ZoneSize → ℕ → ℕ → Type 0
 normal_rule size online t = IsValidSize size → 1 ≤ online → online ≤ 128 → t ≡ normal_threshold_of size online
 
--- a rule that answers by it
+-- `calculate_pressure_threshold` of mm/vmstat.c
+abbrev pub pressure_rule : ZoneSize → ℕ → ℕ → Type 0
+pressure_rule size online t = IsValidSize size → 1 ≤ online → online ≤ 128 → t ≡ pressure_threshold_of size online
+
+-- a rule that answers by the one or the other
 abbrev pub GoesByNormal : (ZoneSize → ℕ → ℕ → Type 0) → Type 0
 GoesByNormal answers = (size : ZoneSize) (online t : ℕ) → answers size online t → normal_rule size online t
+
+abbrev pub GoesByPressure : (ZoneSize → ℕ → ℕ → Type 0) → Type 0
+GoesByPressure answers = (size : ZoneSize) (online t : ℕ) → answers size online t → pressure_rule size online t
 
 -- counters that were opened with a header and the kernel's normal rule
 abbrev pub HoldsOpened : Header → Option Opened → Type 0
@@ -46,7 +53,7 @@ Opens text new None after before status =
 abbrev pub Closes : Option Opened → Option Opened → ℤ → Type 0
 Closes new None status = (status ≡ null) × (new ≡ None)
 Closes None (Some old) status =
-    (status ≡ made) × (state : State) × (history : Phase Facts Step) × AreClosed old state history
+    (status ≡ made) × (closed : Closed) × AreClosed old closed
 Closes (Some new) (Some old) status = (status ≡ handles_out) × (new ≡ old)
 
 -- how a handle is begun, into a variable that holds nothing

@@ -61,6 +61,10 @@ call_status (call.NoZoneIndex index) = negsuc 13
 call_status (call.NoOrder order) = negsuc 14
 call_status call.TooOften = negsuc 36
 call_status (call.TooMuch overflow) = negsuc 15
+call_status (call.NoEvent event) = negsuc 37
+call_status (call.NoPcpu counter) = negsuc 38
+call_status call.TooFar = negsuc 39
+call_status call.Held = negsuc 40
 
 -- why a header is refused
 abbrev pub header_status : HeaderCause → ℤ

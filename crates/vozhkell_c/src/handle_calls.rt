@@ -1,7 +1,7 @@
 ghost use Rattle.std.specs.Prelude.{◌≡◌, ℕ, ℤ};
 ghost use Rattle.vozhkell_c.specs.Calls.{Calls, Tells};
 ghost use Rattle.vozhkell_c.specs.HandleCalls.{IsAdd, IsDec, IsFolded, IsInc, IsSnap, IsSystem, IsValue, Tests};
-ghost use Rattle.vozhkell_c.specs.HandleCalls.{mark_of};
+ghost use Rattle.vozhkell_c.specs.HandleCalls.{WithPages, mark_of};
 ghost use Rattle.vozhkell_c.specs.Statuses as told;
 
 use crate::held_handle::HeldHandle;
@@ -19,7 +19,7 @@ pub extern "C" fn vozhkell_c_add(
     counter: u32,
     pages: i64,
 ) -> i32
-    ensures { Calls told.call_status (IsAdd (record { number = counter }) pages)
+    ensures { Calls told.call_status (WithPages (IsAdd (record { number = counter }) pages))
         handle.new.value handle.old.value result }
 {
     let Some(mut room) = handle.take(alloc) else {
@@ -39,7 +39,8 @@ pub extern "C" fn vozhkell_c_add(
 /// Adds a page to a counter.
 #[unsafe(no_mangle)]
 pub extern "C" fn vozhkell_c_inc(alloc: Global, handle: &mut HeldHandle, counter: u32) -> i32
-    ensures { Calls told.call_status (IsInc (record { number = counter })) handle.new.value handle.old.value result }
+    ensures { Calls told.call_status (WithPages (IsInc (record { number = counter }))) handle.new.value handle.old.value
+        result }
 {
     let Some(mut room) = handle.take(alloc) else {
         return NULL;
@@ -58,7 +59,8 @@ pub extern "C" fn vozhkell_c_inc(alloc: Global, handle: &mut HeldHandle, counter
 /// Takes a page from a counter.
 #[unsafe(no_mangle)]
 pub extern "C" fn vozhkell_c_dec(alloc: Global, handle: &mut HeldHandle, counter: u32) -> i32
-    ensures { Calls told.call_status (IsDec (record { number = counter })) handle.new.value handle.old.value result }
+    ensures { Calls told.call_status (WithPages (IsDec (record { number = counter }))) handle.new.value handle.old.value
+        result }
 {
     let Some(mut room) = handle.take(alloc) else {
         return NULL;
@@ -77,7 +79,8 @@ pub extern "C" fn vozhkell_c_dec(alloc: Global, handle: &mut HeldHandle, counter
 /// Folds a CPU: its differentials move to the global values.
 #[unsafe(no_mangle)]
 pub extern "C" fn vozhkell_c_fold(alloc: Global, handle: &mut HeldHandle, cpu: u32) -> i32
-    ensures { Calls told.call_status (IsFolded (record { number = cpu })) handle.new.value handle.old.value result }
+    ensures { Calls told.call_status (WithPages (IsFolded (record { number = cpu }))) handle.new.value handle.old.value
+        result }
 {
     let Some(mut room) = handle.take(alloc) else {
         return NULL;
@@ -101,7 +104,7 @@ pub extern "C" fn vozhkell_c_value(
     counter: u32,
     pages: &mut u64,
 ) -> i32
-    ensures { Tells told.call_status (λ value. value) (IsValue (record { number = counter }))
+    ensures { Tells told.call_status (λ value. value) (WithPages (IsValue (record { number = counter })))
         handle.new.value handle.old.value pages.new pages.old result }
 {
     let Some(mut room) = handle.take(alloc) else {
@@ -129,7 +132,7 @@ pub extern "C" fn vozhkell_c_system_value(
     item: u32,
     pages: &mut u64,
 ) -> i32
-    ensures { Tells told.call_status (λ value. value) (IsSystem (record { number = item }))
+    ensures { Tells told.call_status (λ value. value) (WithPages (IsSystem (record { number = item })))
         handle.new.value handle.old.value pages.new pages.old result }
 {
     let Some(mut room) = handle.take(alloc) else {
@@ -157,7 +160,7 @@ pub extern "C" fn vozhkell_c_snapshot(
     counter: u32,
     pages: &mut u64,
 ) -> i32
-    ensures { Tells told.call_status (λ value. value) (IsSnap (record { number = counter }))
+    ensures { Tells told.call_status (λ value. value) (WithPages (IsSnap (record { number = counter })))
         handle.new.value handle.old.value pages.new pages.old result }
 {
     let Some(mut room) = handle.take(alloc) else {
@@ -227,7 +230,7 @@ pub extern "C" fn vozhkell_c_watermark_ok(
 }
 
 /// The watermark of a number.
-fn mark_of(number: u32) -> Option<WaterMark>
+pub(crate) fn mark_of(number: u32) -> Option<WaterMark>
     ensures { result ≡ mark_of number }
 {
     match number {

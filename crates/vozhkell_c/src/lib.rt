@@ -1,9 +1,10 @@
-//! Page counters for C: the functions behind those of `vozhkell.h`, over `vms_counters`. Each answers a status. A
+//! Counters for C: the functions behind those of `vozhkell.h`, over `vms_counters`. Each answers a status. A
 //! variable of C owns what is on the heap.
 #![tactic(auto)]
 
 mod beginning;
 mod control_calls;
+mod event_calls;
 mod handle_calls;
 mod held_control;
 mod held_counters;
@@ -11,4 +12,5 @@ mod held_handle;
 mod lookups;
 mod loose;
 mod opening;
+mod order_calls;
 mod statuses;

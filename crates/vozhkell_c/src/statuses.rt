@@ -50,6 +50,10 @@ pub(crate) fn call_status(error: CallError) -> i32
         CallError::NoOrder(_) => -15,
         CallError::TooOften => -37,
         CallError::TooMuch(_) => -16,
+        CallError::NoEvent(_) => -38,
+        CallError::NoPcpu(_) => -39,
+        CallError::TooFar => -40,
+        CallError::Held => -41,
     }
 }
 

@@ -7,6 +7,7 @@ returns-clause-between g c =
     let old = g.P.Caller.pass c.args.pass.now in
     let new = g.P.Caller.pass c.place_value.new.pass in
     let made = c.place_value.ensures.made in
-    between-left c.args.shared.now.table new old made.0 made.2 c.requires
-    (c.looks_leave_their_caller.ensures.place_value c.args.shared.now.table.facts.layout c.args.counter old.number
+    between-left c.args.shared.now.tables.pages new old made.0 made.2 c.requires
+    (c.looks_leave_their_caller.ensures.place_value c.args.shared.now.tables.pages.facts.layout c.args.counter
+    old.number
     old.seen made.0 (_, made.1) _)

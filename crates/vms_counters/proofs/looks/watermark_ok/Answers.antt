@@ -10,7 +10,7 @@ returns-clause-between g c =
     let old = g.P.Caller.pass c.args.pass.now in
     let new = g.P.Caller.pass c.watermark_ok.new.pass in
     let made = c.watermark_ok.ensures.made in
-    between-left shared.table new old made.0 made.2 c.requires
+    between-left shared.tables.pages new old made.0 made.2 c.requires
     (subst (λ (shape : Shape). LeavesCaller shape old.number made.0 (own old.seen old.number)) shared.same_layout
     (c.looks_leave_their_caller.ensures.test shared.header c.args.zone c.args.mark c.args.most old.number old.seen
     made.0 (_, made.1) _))

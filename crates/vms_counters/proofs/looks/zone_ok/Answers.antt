@@ -10,7 +10,7 @@ returns-clause-between g c =
     let old = g.P.Caller.pass c.args.pass.now in
     let new = g.P.Caller.pass c.zone_ok.new.pass in
     let made = c.zone_ok.ensures.made in
-    between-left shared.table new old made.0 made.2 c.requires.between
+    between-left shared.tables.pages new old made.0 made.2 c.requires.between
     (subst (λ (shape : Shape). LeavesCaller shape old.number made.0 (own old.seen old.number)) shared.same_layout
     (c.looks_leave_their_caller.ensures.order shared.header c.args.zone c.args.mark c.args.most c.args.order
     old.number old.seen made.0 (_, made.1) _))

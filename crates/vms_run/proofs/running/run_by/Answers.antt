@@ -13,6 +13,6 @@ returns-clause-makes g c =
     ap (λ (pair : RulePair _ _). pair.pressure) c.make-rules.ensures in
     makes_on_threads-kernel (g.P.Rule.answers c.make-rules.result.pressure)
     (g.N.Rule.answers c.make-rules.result.normal)
-    (subst (λ p. GoesBy pressure_threshold_of (g.P.Rule.answers p)) (sym pressure) c.requires.exact_pressure)
-    (subst (λ n. GoesBy normal_threshold_of (g.N.Rule.answers n)) (sym normal) c.requires.exact_normal)
+    (subst (λ p. GoesBy pressure_threshold_of (g.P.Rule.answers p)) (sym pressure) c.requires.rules.exact_pressure)
+    (subst (λ n. GoesBy normal_threshold_of (g.N.Rule.answers n)) (sym normal) c.requires.rules.exact_normal)
     c.args.header.now c.args.world c.args.script.now c.run_phase.result c.run_phase.ensures.phase

@@ -9,9 +9,8 @@ returns g c =
     let w = c.args.world in
     let items = c.args.script.now in
     let done = c.in_ok-world.field-0 in
-    let run = IsRun-ok header w items c.run.result done
-    (c.requires.runner.runs header w items c.run.result c.requires.header c.requires.may c.run.ensures)
-    c.in_ok-world.was in
+    let run = IsRun-ok header w items c.make.result done
+    c.make.ensures c.in_ok-world.was in
     IsOneRun-handed header w items done c.in_ok-before.before c.in_ok-lines.lines c.as_slice.result.now
     c.as_slice-2.result.now (λ told. Prints header c.args.printer.now told c.hand_on.new.taker) run
     c.in_ok-before.ensures c.in_ok-lines.ensures c.as_slice.ensures.items c.as_slice-2.ensures.value

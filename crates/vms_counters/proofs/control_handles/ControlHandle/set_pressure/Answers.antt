@@ -9,10 +9,12 @@ use Rattle.vms_counters.proofs.control_handles.ControlHandle.set_pressure.Goals 
 
 pub returns-clause-marks : goal.returns-clause-marks
 returns-clause-marks g c =
-    let pass = c.self.inside.pass in
+    let pass = c.self.inside.passes.page in
     let settles : Facts → Pass Facts Step → Type 0 = λ facts old.
     IfOk c.set_pressure.result (λ done. SettlesNode facts
-    (ByPressure (g.P.Rule.answers c.args.rules.now.pressure) (g.N.Rule.answers c.args.rules.now.normal)) c.args.node c.set_pressure.new.pass old) in
-    subst (λ (h : AnyHandle). settles h.pass.facts h.pass) c.self.view_is
+    (ByPressure (g.P.Rule.answers c.args.rules.now.pressure) (g.N.Rule.answers c.args.rules.now.normal)) c.args.node
+    c.set_pressure.new.pass old) in
+    subst (λ (h : AnyHandle). settles h.page.pass.facts h.page.pass) c.self.view_is
     (subst (λ (facts : Facts). settles facts pass) (sym c.self.invariant.between.of.facts)
-    (subst (λ (shared : SharedCounters). settles shared.table.facts pass) c.deref.ensures c.set_pressure.ensures.marks))
+    (subst (λ (shared : SharedCounters). settles shared.tables.pages.facts pass) c.deref.ensures
+    c.set_pressure.ensures.marks))

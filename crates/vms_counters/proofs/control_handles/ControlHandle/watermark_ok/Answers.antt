@@ -3,16 +3,16 @@ use Rattle.std.proofs.Common.{◌≡◌, true, [], IfOk, subst}
 use Rattle.vms_world.specs.Common.{limit_of}
 use Rattle.vms_look.specs.Common.{SaysTruly}
 use Rattle.vms_counters.specs.declared.shared.SharedCounters.{SharedCounters}
-use Rattle.vms_counters.specs.Handles.{AnyHandle, handle_of}
+use Rattle.vms_counters.specs.Handles.{AnyHandle, PageHandle, handle_of}
 use Rattle.vms_counters.proofs.control_handles.ControlHandle.watermark_ok.Goals as goal
 
 pub returns-clause-truly : goal.returns-clause-truly
 returns-clause-truly c =
     let inside = c.self.inside in
-    let claim : AnyHandle → Type 0 = λ h.
+    let claim : PageHandle → Type 0 = λ h.
     IfOk c.watermark_ok.result (λ verdict. verdict.yes ≡ true → verdict.fast ≡ true →
     SaysTruly c.watermark_ok.new.pass h.pass c.args.zone
     (limit_of h.header c.args.zone.number c.args.mark c.args.most)) in
-    subst claim c.self.view_is
-    (subst (λ (shared : SharedCounters). claim (handle_of shared.header inside.pass []))
+    subst (λ (h : AnyHandle). claim h.page) c.self.view_is
+    (subst (λ (shared : SharedCounters). claim (handle_of shared.header inside.passes.page []))
     c.deref.ensures c.watermark_ok.ensures.truly)
