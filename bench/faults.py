@@ -29,7 +29,7 @@ TOP = os.path.dirname(os.path.dirname(os.path.abspath(__file__)))
 DONE, WORDS, HEADER, REFUSED, READ, WRITE, MEMORY = range(7)
 NOT_CERTIFIED = 9
 PANIC = 101
-PROVED_USAGE = b"usage: check | replay | run | gen SEED CPUS LINES | groups | certify\n"
+PROVED_USAGE = b"usage: check | replay | run | gen SEED CPUS LINES | groups | record | certify\n"
 # What `gen 1 1 1` prints: its one line adds 19 pages to an item.
 SMALLEST_MADE = b"line 8: report totals\n" + b"".join(b"%s %d\n" % (counter.encode(), {
     "0 Normal nr_free_pages": 1_000_000, "0 Normal nr_zone_unevictable": 19}.get(counter, 0)) for counter in [
@@ -155,11 +155,15 @@ class Trials:
         # One CPU, in phases of a hundred lines.
         longs.append(("groups", made_by("groups.py", "1", "20000", "1", "64", "100")))
         history = run([plain["record"], "record"], self.long)[1]
-        longs.append(("certify", history))
+        longs += [("certify", history), ("record", made_by("phases.py", "1", "1500"))]
         self.readers += self.of_groups
         self.certified = [self.row("certify", "history_" + name)
                           for name in ("after_refused_lines", "in_a_random_order", "of_a_change")]
         self.readers += self.certified
+        self.recorded = [self.call("record", self.row("replay", name).text,
+                                   *run([plain["record"], "record"], self.row("replay", name).text))
+                         for name in ("two_lanes", "burial_moves_once")]
+        self.readers += self.recorded
         self.longs = [self.call(command, text, *run([plain[command], command], text)) for command, text in longs]
         self.made = [self.call("gen 1 1 1", b"", DONE, SMALLEST_MADE)] if "gen" in programs else []
 
@@ -213,6 +217,9 @@ class Trials:
                     said = b""
                 elif call is self.spelled:
                     said = text[:text.rindex(b"\n", 0, size) + 1]
+                elif call in self.recorded:
+                    said = run([call.words[0], "check"], text[:text.rfind(b"\n", 0, size) + 1])[1]
+                    said = b"".join(line for line in said.splitlines(True) if not line.startswith(b"#"))
                 else:
                     said = taken(text, out, lines)
                 found = from_socket(call.words, [text[:size]] if size else [], fails=True)
@@ -280,7 +287,8 @@ class Trials:
 
     def folder_as_input(self):
         answers = [(words, (READ, b""))
-                   for words in [*self.all_words(), self.of_groups[0].words, self.certified[0].words]]
+                   for words in [*self.all_words(), *(calls[0].words for calls in (self.of_groups, self.certified,
+                                                                                   self.recorded))]]
         for words, answer in answers + [(call.words, call.answer) for call in self.made]:
             folder = os.open(TOP, os.O_RDONLY)
             done = subprocess.run(words, stdin=folder, stdout=subprocess.PIPE, timeout=60)
@@ -289,7 +297,7 @@ class Trials:
 
     def refused_header_comes_first(self):
         """What is wrong with a line that was read is answered before a read that fails."""
-        for words in [*self.all_words(), self.certified[0].words]:
+        for words in [*self.all_words(), self.certified[0].words, self.recorded[0].words]:
             found = from_socket(words, [b"vmtrace 1\ncpus 65\n"], fails=True)
             expect(f"a refused header under {words[1]}", found, (HEADER, b"line 2: BadCpus\n"))
             found = from_socket(words, [b"vmtrace 1\ncpus 65"], fails=True)
@@ -346,6 +354,7 @@ class Trials:
             self.call("replay", b"vmtrace 3\n", HEADER, b"line 1: BadMagic\n"),
             self.call("groups", b"vmgroups 3\n", HEADER, b"line 1: BadMagic\n"),
             self.call("certify", b"vmtrace 3\n", HEADER, b"line 1: BadMagic\n"),
+            self.call("record", b"vmtrace 3\n", HEADER, b"line 1: BadMagic\n"),
             self.call("certify", b"vmtrace 1\ncpus 1\nzone 0 Normal 262144 100 125 150\ngo\n", NOT_CERTIFIED,
                       b"line 5: Incomplete\n"),
             self.call("replay none", b"", WORDS, PROVED_USAGE if "gen" in self.programs else b"usage: replay\n"),

@@ -3,14 +3,14 @@
 
     bench/rows.py [NAME]
 
-The programs are bench/check.rs, bench/replay.rs, bench/run.rs, bench/groups.rs and bench/certify.rs, or the one that
-VOZHKELL names, called with the word of the command. With a NAME they get the rows of that name alone, and the whole
+The programs are bench/check.rs, bench/replay.rs, bench/run.rs, bench/groups.rs, bench/record.rs and bench/certify.rs,
+or the one that VOZHKELL names, called with the word of the command. With a NAME they get the rows of that name alone, and the whole
 difference is shown. The status is 1 if an answer differs, and 2 if there is no such row.
 
 In bench/rows there are
 - NAME.vmtrace with NAME.out, which `replay` and `run` print of it, or with NAME.check, which `check` prints, or both. A
   refused header is answered alike by all three. Where a phase has lines of two lanes, they race in three runs, and what
-  is the same in every order is compared (bench/agree.py);
+  is the same in every order is compared (bench/agree.py). What `record` writes is held beside `check`, and certified;
 - NAME.vmgroups with NAME.out, of `groups`;
 - NAME.vmhistory with NAME.out, of `certify`;
 - `spoiled_lines`: the number of a line of history_of_a_change.vmhistory, what `certify` says of it with another line in
@@ -41,12 +41,14 @@ from large_rows import Large, large_rows
 
 TOP = os.path.dirname(os.path.dirname(os.path.abspath(__file__)))
 ROWS = os.path.join(TOP, "bench", "rows")
-COMMANDS = ("check", "replay", "run", "groups", "certify")
+COMMANDS = ("check", "replay", "run", "groups", "record", "certify")
 PIECES = (1, 7, 64)
 MOST_IN_PIECES = 4096
+MOST_LINES = 1_000_000
+TOO_LONG = 7
 RUNS_OF_A_RACE = 3
 MOST_ZONE = 1 << 40
-USAGE = b"usage: check | replay | run | gen SEED CPUS LINES | groups | certify\n"
+USAGE = b"usage: check | replay | run | gen SEED CPUS LINES | groups | record | certify\n"
 # That of the plain program, which has its own word alone.
 USAGE_OF_REPLAY = b"usage: replay\n"
 BOUNDARIES = {b"sync", b"flush", b"offline", b"online", b"report"}
@@ -121,11 +123,30 @@ class Answers:
                      text if races and not is_same else None)
         if status == HEADER:
             checked = out
+        self.ask_of_record(name, text)
         if checked is not None:
             self.ask("check", name, text, (status, checked))
             if checked.startswith(b"vmtrace") and checked.count(b"# done") == 1:
                 self.expect(f"check of what it wrote of {name}", run([self.programs["check"], "check"], checked),
                             (0, without_refusals(checked)))
+
+    def ask_of_record(self, name, text):
+        """What `record` writes: what `check` writes, without remarks, and a history that is certified."""
+        status, checked = run([self.programs["check"], "check"], text)
+        found = run([self.programs["record"], "record"], text)
+        if not checked.startswith(b"vmtrace"):
+            self.expect(f"record of {name}", found, (status, checked))
+            return
+        copied = re.sub(rb"^#.*\n", b"", checked, flags=re.M)
+        if status == TOO_LONG:
+            self.expect(f"record of {name}", found, (status, copied))
+            return
+        self.expect(f"record of {name}, above its history", (found[0], found[1][:len(copied) + 10]),
+                    (status, copied + b"history 1\n"))
+        verdict = run([self.programs["certify"], "certify"], found[1])
+        within = found[1].count(b"\n") <= MOST_LINES
+        self.expect(f"certify of what it recorded of {name}", (verdict[0], verdict[1].split(b" phases ")[0]),
+                    (0, b"certified") if within else (TOO_LONG, b""))
 
     def ask_of_words(self, words):
         """Words that name no command: a file that is open as standard input is left at its first byte."""
@@ -178,6 +199,9 @@ def ask_all(answers, wanted_name):
             answers.ask("groups", name, groups, (int(status), out))
         elif history is not None:
             answers.ask("certify", name, history, (int(status), out))
+            if name == "history_of_a_change":
+                trace = history[:history.index(b"history 1\n")]
+                answers.ask("record", name, trace, (0, history))
         else:
             answers.ask_of_trace(name, contents(name + ".vmtrace"), int(status), out, contents(name + ".check"), same)
     for name, make in large_rows():

@@ -9,6 +9,7 @@ use Rattle.vms_certifying.specs.Answers.{SaysCertified}
 use Rattle.vms_check.specs.Common.{check, shown_by_check}
 use Rattle.vms_gen.specs.declared.numbers.Numbers.{Numbers}
 use Rattle.vms_groups.specs.Common.{AnswersGroups, SaysGroups}
+use Rattle.vms_record.specs.Answers.{SaysRecord}
 use Rattle.vms_replay.specs.Common.{SaysReplay, AnswersReplayed, SaysReplayed}
 use Rattle.vms_run.specs.Common.{AnswersMade, makes_on_threads}
 use Rattle.vms_stream.specs.Common.{TakesAndWrites, FaultsOfSink, FaultsOfSource, Says}
@@ -17,7 +18,7 @@ use Rattle.vms_stream.specs.declared.statuses.Status.TheVariants.{Words, ReadFau
 use Rattle.vms_tool.specs.Common.{AnswersUnder, SaysOf, ShownAs, ShowsUsage, command_of, no_phases, usage_line}
 use Rattle.vms_tool.specs.declared.histories.Histories.{Histories}
 use Rattle.vms_tool.specs.declared.naming.Command.{Command}
-use Rattle.vms_tool.specs.declared.naming.Command.TheVariants.{Check, Replay, Run, Gen, Groups, Certify}
+use Rattle.vms_tool.specs.declared.naming.Command.TheVariants.{Check, Replay, Run, Gen, Groups, Record, Certify}
 
 -- the write of the usage line failed
 pub ShowsUsage-unwritten : (held held' : Option (List ℕ)) (n : ℕ) → Appends held held' (take n usage_line)
@@ -94,6 +95,14 @@ module _ {S K : Type 0} (left : S → Option (List ℕ)) (read_faults : S → �
       (none_more old.phases new.phases (ap (λ (h : Histories). h.phases) same))
       (none_more old.groups new.groups (ap (λ (h : Histories). h.groups) same))
       (answers_saying SaysReplay (SaysOf (Some Replay) no_phases) (λ taken written at_end says. (refl, says)) answers)
+
+  pub under_record : command_of words ≡ Some Record → new ≡ old
+      → TakesAndWrites left read_faults held write_faults src src' out out' status SaysRecord
+      → AnswersUnder words old new left read_faults held write_faults src src' out out' status
+  under_record is same answers = under_named (Some Record) no_phases is
+      (none_more old.phases new.phases (ap (λ (h : Histories). h.phases) same))
+      (none_more old.groups new.groups (ap (λ (h : Histories). h.groups) same))
+      (answers_saying SaysRecord (SaysOf (Some Record) no_phases) (λ taken written at_end says. (refl, says)) answers)
 
   pub under_certify : command_of words ≡ Some Certify → new ≡ old
       → TakesAndWrites left read_faults held write_faults src src' out out' status (SaysCertified kernel_rules)

@@ -7,6 +7,7 @@ use Rattle.vms_check.specs.Common.{check, shown_by_check}
 use Rattle.vms_gen.specs.Common.{made_text}
 use Rattle.vms_gen.specs.declared.numbers.Numbers.{Numbers}
 use Rattle.vms_groups.specs.Common.{SaysGroups}
+use Rattle.vms_record.specs.Answers.{SaysRecord}
 use Rattle.vms_replay.specs.Common.{SaysReplay, PastPhase, SaysReplayed}
 use Rattle.vms_run.specs.Common.{makes_on_threads}
 use Rattle.vms_stream.specs.Common.{TakesAndWrites, Says}
@@ -15,11 +16,11 @@ use Rattle.vms_stream.specs.declared.statuses.Status.TheVariants.{Words, ReadFau
 use Rattle.vms_tool.specs.Naming.{command_of}
 use Rattle.vms_tool.specs.declared.histories.Histories.{Histories}
 use Rattle.vms_tool.specs.declared.naming.Command.{Command}
-use Rattle.vms_tool.specs.declared.naming.Command.TheVariants.{Check, Replay, Run, Gen, Groups, Certify}
+use Rattle.vms_tool.specs.declared.naming.Command.TheVariants.{Check, Replay, Run, Gen, Groups, Record, Certify}
 
 -- what is written for words that name no command
 abbrev pub usage_line : List ℕ
-usage_line = codes "usage: check | replay | run | gen SEED CPUS LINES | groups | certify" ++ 10 ∷ []
+usage_line = codes "usage: check | replay | run | gen SEED CPUS LINES | groups | record | certify" ++ 10 ∷ []
 
 -- the usage line was written, or a part of it
 abbrev pub ShownAs : Status → List ℕ → Type 0
@@ -60,6 +61,7 @@ SaysOf (Some (Gen numbers)) made status taken written at_end =
     (made.groups ≡ []) × SaysMade numbers made.phases status taken written
 SaysOf (Some Groups) made status taken written at_end =
     (made.phases ≡ []) × SaysGroups made.groups status taken written at_end
+SaysOf (Some Record) made status taken written at_end = (made ≡ no_phases) × SaysRecord status taken written at_end
 SaysOf (Some Certify) made status taken written at_end =
     (made ≡ no_phases) × SaysCertified kernel_rules status taken written at_end
 SaysOf None made status taken written at_end = (made ≡ no_phases) × (taken ≡ []) × ShownAs status written

@@ -2,7 +2,7 @@
 use Rattle.std.specs.Prelude.{ℕ, List, [], ◌∷◌, codes, bytes_eq, if◌then◌else◌, Option, Some, None, option_map}
 use Rattle.vms_gen.specs.Common.{InRange, numbers_named}
 use Rattle.vms_tool.specs.declared.naming.Command.{Command}
-use Rattle.vms_tool.specs.declared.naming.Command.TheVariants.{Check, Replay, Run, Gen, Groups, Certify}
+use Rattle.vms_tool.specs.declared.naming.Command.TheVariants.{Check, Replay, Run, Gen, Groups, Record, Certify}
 
 -- the command that the words name: their one word, or `gen` and three numbers
 abbrev pub command_of : List (List ℕ) → Option Command
@@ -11,6 +11,7 @@ command_of (word ∷ []) =
     else if bytes_eq word (codes "replay") then Some Replay
     else if bytes_eq word (codes "run") then Some Run
     else if bytes_eq word (codes "groups") then Some Groups
+    else if bytes_eq word (codes "record") then Some Record
     else if bytes_eq word (codes "certify") then Some Certify
     else None
 command_of words = option_map Gen (numbers_named words)

@@ -5,7 +5,8 @@ ghost use Rattle.vms_tool.specs.Naming.{command_of};
 
 use crate::naming::{Command, named_by};
 use crate::{
-    Gate, Histories, Status, tool_certify, tool_check, tool_gen, tool_groups, tool_replay, tool_run,
+    Gate, Histories, Status, tool_certify, tool_check, tool_gen, tool_groups, tool_record,
+    tool_replay, tool_run,
 };
 use std::alloc::Global;
 use std::sync::Wait;
@@ -13,7 +14,8 @@ use std::thread::Threads;
 use vms_io::{Sink, Source, write_all};
 
 /// The line for words that name no command.
-const USAGE: &[u8] = b"usage: check | replay | run | gen SEED CPUS LINES | groups | certify\n";
+const USAGE: &[u8] =
+    b"usage: check | replay | run | gen SEED CPUS LINES | groups | record | certify\n";
 
 /// Does what the words say: they are those after the program's name. With `run`, `gen` and `groups` the lanes of a
 /// phase run on threads, which call the gate before each line, and the histories of each phase are appended to those
@@ -39,6 +41,7 @@ pub fn tool<R: Threads + Wait + Sync, G: Gate, S: Source, K: Sink>(
             tool_gen(rt, alloc, numbers, out, gate, &mut histories.phases)
         }
         Some(Command::Groups) => tool_groups(rt, alloc, src, out, gate, &mut histories.groups),
+        Some(Command::Record) => tool_record(alloc, src, out),
         Some(Command::Certify) => tool_certify(alloc, src, out),
         None => show_usage(out),
     }

@@ -17,6 +17,7 @@ pub use vms_certify::tool_certify;
 pub use vms_check::tool_check;
 pub use vms_gen::Numbers;
 pub use vms_groups::{GroupRun, GroupRuns, tool_groups};
+pub use vms_record::tool_record;
 pub use vms_replay::tool_replay;
 pub use vms_run::{Gate, OpenGate, tool_gen, tool_run};
 pub use vms_stream::Status;

@@ -16,6 +16,8 @@ pub enum Command {
     Gen(Numbers),
     /// Runs a trace of a tree of groups, each lane of a phase on a thread of its own.
     Groups,
+    /// Writes a trace and its history in file order.
+    Record,
     /// Judges the history that is written after a trace.
     Certify,
 }
@@ -44,6 +46,8 @@ fn named(word: &str) -> Option<Command>
         Some(Command::Run)
     } else if word == "groups" {
         Some(Command::Groups)
+    } else if word == "record" {
+        Some(Command::Record)
     } else if word == "certify" {
         Some(Command::Certify)
     } else {

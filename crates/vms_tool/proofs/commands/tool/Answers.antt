@@ -1,7 +1,7 @@
 -- Each command: what it answers is what its words say.
 use Rattle.std.proofs.Common.{Some, ap, map, string_bytes, refl, sym, ◌∙◌}
-use Rattle.vms_tool.proofs.Saying.{under_certify, under_check, under_gen, under_groups, under_none, under_replay}
-use Rattle.vms_tool.proofs.Saying.{under_run}
+use Rattle.vms_tool.proofs.Saying.{under_certify, under_check, under_gen, under_groups, under_none, under_record}
+use Rattle.vms_tool.proofs.Saying.{under_replay, under_run}
 use Rattle.vms_tool.specs.declared.naming.Command.{Command}
 use Rattle.vms_tool.proofs.commands.tool.Goals as goal
 
@@ -44,6 +44,14 @@ returns-in-Some-Groups-clause-answers g c =
     c.tool_groups.result c.args.histories.now (record c.args.histories.now { groups = c.tool_groups.new.made })
     (sym c.named_by.ensures.named ∙ c.in-Some-Groups.is
     ∙ ap (λ (named : Command). Some named) c.in-Some-Groups.field-0-is) refl c.tool_groups.ensures
+
+pub returns-in-Some-Record-clause-answers : goal.returns-in-Some-Record-clause-answers
+returns-in-Some-Record-clause-answers g c =
+    under_record g.S.Source.remaining g.S.Source.faults g.K.Sink.written g.K.Sink.faults c.args.src.now
+    c.tool_record.new.src c.args.out.now c.tool_record.new.out (map (λ word. string_bytes word) c.args.words.now)
+    c.tool_record.result c.args.histories.now c.args.histories.now
+    (sym c.named_by.ensures.named ∙ c.in-Some-Record.is
+    ∙ ap (λ (named : Command). Some named) c.in-Some-Record.field-0-is) refl c.tool_record.ensures
 
 pub returns-in-Some-Certify-clause-answers : goal.returns-in-Some-Certify-clause-answers
 returns-in-Some-Certify-clause-answers g c =
