@@ -114,8 +114,8 @@ def wrapped(line):
         return [line]
     mark = re.match(r"\s*(?:--|///?) ", line) or re.match(r"\s*", line)
     begin = mark.group() if mark.group().strip() else mark.group() + "    "
-    end = line.rindex(" ", 0, WIDTH + 1)
-    return [line[:end], *wrapped(begin + line[end + 1:])]
+    end = line.rfind(" ", mark.end(), WIDTH + 1)
+    return [line[:end], *wrapped(begin + line[end + 1:])] if end > 0 else [line]
 
 
 def fenced(language, pieces):

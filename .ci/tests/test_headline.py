@@ -205,6 +205,9 @@ class HeadlineTest(unittest.TestCase):
         self.assertEqual(self.call(), (0, ""))
         self.assertIn(f"-- {('word ' * 23).rstrip()}\n-- {'word ' * 7}end\n", self.page())
         self.file("crates/vms_tool/specs/Answers.antt", specs.replace("Unit {0}", "Unit " * 30))
+        self.assertEqual(self.call(), (0, ""))
+        self.assertRegex(self.page(), r" Unit\n    (Unit )+Unit")
+        self.file("crates/vms_tool/specs/Answers.antt", specs.replace("Unit {0}", "U" * 130))
         self.assertEqual(self.call()[0], 1)
 
 
