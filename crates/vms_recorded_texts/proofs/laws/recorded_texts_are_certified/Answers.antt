@@ -1,0 +1,5 @@
+use Rattle.vms_recorded_texts.proofs.SameSegments.{IsWrittenHistory-same, segments_with-same}
+use Rattle.vms_recorded_texts.proofs.laws.recorded_texts_are_certified.Goals as goal
+
+pub returns : goal.returns
+returns c = tt

@@ -1,0 +1,10 @@
+ghost use Rattle.vms_recorded_texts.specs.RecordedTexts.{RecordedTextsAreCertified};
+
+use vms_recorded::recorded_histories_are_written;
+
+/// What a recording writes of a trace is certified.
+pub fn recorded_texts_are_certified()
+    ensures { RecordedTextsAreCertified }
+{
+    recorded_histories_are_written();
+}
