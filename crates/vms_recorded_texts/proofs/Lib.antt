@@ -1,1 +1,2 @@
 pub mod SameSegments
+pub mod StepsOfLayouts
