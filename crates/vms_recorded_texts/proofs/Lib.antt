@@ -1,2 +1,3 @@
 pub mod SameSegments
 pub mod StepsOfLayouts
+pub mod HistoriesRead
