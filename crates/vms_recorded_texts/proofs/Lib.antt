@@ -1,3 +1,4 @@
 pub mod SameSegments
 pub mod StepsOfLayouts
 pub mod HistoriesRead
+pub mod TracesRead
