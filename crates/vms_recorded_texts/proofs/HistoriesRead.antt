@@ -1,14 +1,12 @@
 -- The lines of recorded histories are read back as these histories.
-use Rattle.std.proofs.Common.{◌≡◌, ℕ, suc, ◌+◌, ◌<◌, ◌^◌, List, [], ◌∷◌, ◌++◌, length, map, refl, sym, ap, ◌∙◌, arith}
-use Rattle.std.proofs.Common.{append_assoc, append-nil, Option, Some, None}
+use Rattle.std.proofs.Common.{◌≡◌, ℕ, ◌<◌, ◌^◌, List, [], ◌∷◌, ◌++◌, length, map, refl, sym, ap, ◌∙◌, arith}
+use Rattle.std.proofs.Common.{append_assoc, append-nil, Option, Some}
 use Rattle.std.proofs.lemmas.List.{reverse-append}
 use Rattle.std.proofs.lemmas.List.Elements.{All-head, All-tail}
 use Rattle.std.proofs.lemmas.List.Sums.{sum_by-append, sum_by-cons}
-use Rattle.std.specs.Prelude.{All, option_and_then, reverse}
+use Rattle.std.specs.Prelude.{option_and_then, reverse}
 use Rattle.vms_core.specs.Common.{History, IsLegal, state_after}
 use Rattle.vms_core.specs.declared.steps.Step.{Step}
-use Rattle.vms_history.specs.Common.{Shape}
-use Rattle.vms_history.specs.declared.events.Event.{Event}
 use Rattle.vms_text.specs.Common.{lines_of}
 use Rattle.vms_text.proofs.Common.{lines_of-append}
 use Rattle.vms_phase_lines.specs.Common.{event_lines}
@@ -18,12 +16,12 @@ use Rattle.vms_written_lines.specs.declared.lines.WrittenLine.TheVariants as sai
 use Rattle.vms_written_lines.specs.Laws.{ReadsBack}
 use Rattle.vms_written_lines.specs.Lines.{read_line}
 use Rattle.vms_written_lines.specs.Spelling.{event_line, phase_line}
-use Rattle.vms_written_lines.specs.WideSteps.{step_of, widened}
+use Rattle.vms_written_lines.specs.WideSteps.{widened}
 use Rattle.vms_written_lines.proofs.EventsRead.{EventsReadBack-holds, PhasesReadBack-holds}
 use Rattle.vms_written_lines.proofs.NarrowSteps.{step_of-widened}
 use Rattle.vms_history_checks.specs.Accepts.{events_in}
 use Rattle.vms_history_checks.specs.Said.{with_lines, with_said, with_step}
-use Rattle.vms_recorded.specs.Histories.{LeadsInOrder, history_lines, phase_lines}
+use Rattle.vms_recorded.specs.Histories.{LeadsInOrder, history_lines}
 use Rattle.vms_recorded_texts.specs.RecordedTexts.{AreShort}
 use Rattle.vms_recorded_texts.proofs.StepsOfLayouts.{caller-fits, layout-legal, step-narrow, step-of_layout}
 

@@ -2,3 +2,4 @@ pub mod SameSegments
 pub mod StepsOfLayouts
 pub mod HistoriesRead
 pub mod TracesRead
+pub mod CertifiedAgain

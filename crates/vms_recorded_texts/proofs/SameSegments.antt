@@ -1,8 +1,8 @@
 -- The numbers of lines don't matter to a written history.
-use Rattle.std.proofs.Common.{◌≡◌, ℕ, zero, suc, ◌||◌, Bool, true, false, List, [], ◌∷◌, ◌++◌, map, refl, sym, ap, subst}
+use Rattle.std.proofs.Common.{◌≡◌, ℕ, zero, suc, ◌||◌, Bool, true, false, List, [], ◌∷◌, ◌++◌, map, refl, ap, subst}
 use Rattle.std.proofs.Common.{◌∙◌, if◌then◌else◌}
 use Rattle.std.specs.Prelude.{Result, Ok, Err, filter}
-use Rattle.vms_core.specs.Pages.{History, state_after}
+use Rattle.vms_core.specs.Pages.{History}
 use Rattle.vms_core.specs.Steps.{role}
 use Rattle.vms_text.specs.declared.acts.Line.{Line}
 use Rattle.vms_text.specs.declared.acts.Line.TheVariants.{Blank, Lane as LaneLine, Boundary}
@@ -92,13 +92,12 @@ module _ (header : Header) (pressure normal : ZoneSize → ℕ → ℕ → Type 
   leads-same (Phase is ∷ segments) (Phase js ∷ others) [] s last same led = absurd led
   leads-same (Phase is ∷ segments) (Phase js ∷ others) (h ∷ hs) s last (items, same) (written, led) =
       (phase-same s is js h items written, leads-same segments others hs _ last same led)
-  leads-same (Between n b ∷ segments) (Between m c ∷ others) hs s last (boundary, same) (next, may, crosses, led) =
-      (
-        next,
-        subst (λ d. MayCross header.layout s d) boundary may,
-        subst (λ d. CrossesPages header normal d s next) boundary crosses,
-        leads-same segments others hs next last same led,
-      )
+  leads-same (Between n b ∷ segments) (Between m c ∷ others) hs s last (boundary, same) (next, may, crosses, led) = (
+    next,
+    subst (λ d. MayCross header.layout s d) boundary may,
+    subst (λ d. CrossesPages header normal d s next) boundary crosses,
+    leads-same segments others hs next last same led,
+  )
 
   -- a written history of segments is one of the same with other numbers
   pub IsWrittenHistory-same : (segments others : List Segment) (hs : List History) → SameSegments segments others

@@ -1,20 +1,17 @@
 -- The steps of a legal history of fewer than 2^32 events are of its layout, and their numbers fit.
-use Rattle.std.proofs.Common.{◌≡◌, ◌≢◌, ℕ, suc, ◌+◌, ◌<◌, ◌≤◌, ◌^◌, ◌&&◌, Bool, true, false, List, [], ◌∷◌, length, refl}
-use Rattle.std.proofs.Common.{sym, ap, ◌∙◌, subst, arith, Option, Some, None, nat_eq, nat_lt, if◌then◌else◌, unsigned_abs}
+use Rattle.std.proofs.Common.{ℕ, suc, ◌<◌, ◌≤◌, ◌^◌, ◌&&◌, Bool, true, false, [], ◌∷◌, length}
+use Rattle.std.proofs.Common.{arith, Some, None, nat_eq, if◌then◌else◌}
 use Rattle.std.proofs.lemmas.Int.{ints}
-use Rattle.std.specs.Int.{w64}
-use Rattle.std.specs.Int.RustNames.{FitsSigned}
-use Rattle.std.specs.Prelude.{IfSome, ℤ}
 use Rattle.vms_base.proofs.Common.{place_of-lt}
-use Rattle.vms_history.specs.Common.{Acts, Begins, CpuId, Ends, IsCpu, IsLayout, IsPlace, IsZone, Role, Shape, Works}
-use Rattle.vms_history.specs.Common.{begun, begun_after, begun_in, most_threshold, own, place_of}
+use Rattle.vms_history.specs.Common.{Begins, Ends, IsLayout, IsPlace, IsZone, Role, Shape, Works}
+use Rattle.vms_history.specs.Common.{begun, begun_after, begun_in, own, place_of}
 use Rattle.vms_history.specs.declared.events.Event.{Event}
-use Rattle.vms_history.proofs.Common.{acts_of, base_can_begin, caller_is_given, live_is_given}
+use Rattle.vms_history.proofs.Common.{base_can_begin, caller_is_given, live_is_given}
 use Rattle.vms_core.specs.declared.steps.Facts.{Facts}
 use Rattle.vms_core.specs.declared.steps.Step.{Step}
 use Rattle.vms_core.specs.declared.steps.Step.TheVariants.{LoadT, LoadD, Put, Miss, AddG, AddS, Take, LoadG, LoadS}
 use Rattle.vms_core.specs.declared.steps.Step.TheVariants.{LoadM, LoadO, SetT, SetM, SetO, SetA, LoadA, Split, Join}
-use Rattle.vms_core.specs.Common.{History, IsLegal, Meets, mark_sets_at, pages, role, state_after}
+use Rattle.vms_core.specs.Common.{History, IsLegal, mark_sets_at, pages, role, state_after}
 use Rattle.vms_core.specs.Knowledge.{NameEight}
 use Rattle.vms_core.specs.Laws.{KeepsLaws}
 use Rattle.vms_core.specs.PeakLaws.{OwnsNow}
@@ -82,8 +79,7 @@ module _ (facts : Facts) (h : History) (p : ℕ) (few : length h < 2 ^ 32) where
       → NameEight (record { caller = p; step = step } ∷ h) → suc (length h) < 2 ^ 32 → IsStepOf facts.layout step
   step-fits (LoadT g t a) (legal, acts, meets) laws eight more =
       let range = laws.thresholds meets.cpu.number g.number meets.owns.within meets.place in
-      let told = laws.told_numbers meets.cpu.number g.number meets.owns.within meets.place in
-      (
+      let told = laws.told_numbers meets.cpu.number g.number meets.owns.within meets.place in (
         meets.place,
         omega (arith, range.most, meets.value),
         omega (arith, sets-few meets.cpu.number g.number h, told, meets.number, few),
@@ -95,8 +91,7 @@ module _ (facts : Facts) (h : History) (p : ℕ) (few : length h < 2 ^ 32) where
       let peak = laws.loaded_by_peaks p meets.cpu (place_of facts.layout k.number) (record { t = t; number = meets.number })
       owns place meets.as_loaded in
       let most = laws.peaks meets.cpu.number (place_of facts.layout k.number) meets.owns.within place in
-      let small = meets.affordable in
-      (
+      let small = meets.affordable in (
         meets.counter,
         meets.values.eight,
         omega (arith, peak, most),
@@ -117,8 +112,7 @@ module _ (facts : Facts) (h : History) (p : ℕ) (few : length h < 2 ^ 32) where
   step-fits (LoadS i v) (legal, acts, (item, same)) laws eight more =
       let small = laws.small.systems i.number item in (item, omega (arith, ints, small, same))
   step-fits (LoadM g m a) (legal, acts, meets) laws eight more =
-      let below = laws.marks g.number meets.zone in
-      (
+      let below = laws.marks g.number meets.zone in (
         zone-place facts.layout g.number meets.zone,
         omega (arith, below, meets.value),
         omega (arith, mark_sets-few facts h g.number legal meets.zone, meets.number, few),
@@ -137,8 +131,7 @@ module _ (facts : Facts) (h : History) (p : ℕ) (few : length h < 2 ^ 32) where
   step-fits (LoadA c g None) (legal, acts, meets) laws eight more =
       (meets.cpu, zone-place facts.layout g.number meets.zone, tt)
   step-fits (LoadA c g (Some a)) (legal, acts, meets) laws eight more =
-      let told = laws.acknowledged_numbers c.number g.number a meets.cpu meets.zone meets.value in
-      (
+      let told = laws.acknowledged_numbers c.number g.number a meets.cpu meets.zone meets.value in (
         meets.cpu,
         zone-place facts.layout g.number meets.zone,
         omega (arith, told, sets-few c.number g.number h, few),

@@ -8,7 +8,6 @@ use Rattle.std.specs.Prelude.{All, Result, Ok, Err, bytes_eq, reverse}
 use Rattle.std.specs.Cmp.Lexicographic.{pointwise}
 use Rattle.vms_base.specs.Common.{IsHeader}
 use Rattle.vms_base.specs.declared.headers.Header.{Header}
-use Rattle.vms_text.specs.declared.acts.Boundary.{Boundary as BoundaryOf}
 use Rattle.vms_text.specs.declared.acts.Boundary.TheVariants.{Sync, Offline, Online, Flush, Report}
 use Rattle.vms_text.specs.declared.acts.Lane.TheVariants.{Cpu, Control}
 use Rattle.vms_text.specs.declared.acts.Line.{Line}
