@@ -1,0 +1,11 @@
+pub mod HeldParts
+pub mod CutLines
+pub mod PlainWays
+pub mod LackingParts
+pub mod UsedParts
+pub mod LaneLines
+pub mod TextWalks
+pub mod CopiedLines
+pub mod StoppedCopies
+pub mod TextAnswers
+pub mod Common

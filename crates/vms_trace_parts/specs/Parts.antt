@@ -35,14 +35,14 @@ abbrev pub boundary_of : Begin → Option (ℕ × BoundaryOf)
 boundary_of (AfterHeader header) = None
 boundary_of (WithBoundary number boundary) = Some (number, boundary)
 
--- the header that the first of these parts begins after
-abbrev pub header_of : Begin → Option Header
-header_of (AfterHeader header) = Some header
-header_of (WithBoundary number boundary) = None
+-- the header that a part begins after, and the first of these parts
+abbrev pub header_at : Begin → Option Header
+header_at (AfterHeader header) = Some header
+header_at (WithBoundary number boundary) = None
 
 abbrev pub header_in : List TracePart → Option Header
 header_in [] = None
-header_in (part ∷ parts) = header_of part.begin
+header_in (part ∷ parts) = header_at part.begin
 
 -- the first of these parts begins after this header, and every other one with a boundary line
 abbrev pub IsWithBoundary : Begin → Type 0
@@ -55,12 +55,12 @@ BeginAfter header (part ∷ parts) =
     (part.begin ≡ AfterHeader header) × All (λ other. IsWithBoundary other.begin) parts
 
 -- the segments of a part: its boundary line, if it begins with one, and the phase of its lane lines, if it has some
-abbrev pub begin_segments : Begin → List Segment
-begin_segments (AfterHeader header) = []
-begin_segments (WithBoundary number boundary) = Between number boundary ∷ []
+abbrev pub segments_of_begin : Begin → List Segment
+segments_of_begin (AfterHeader header) = []
+segments_of_begin (WithBoundary number boundary) = Between number boundary ∷ []
 
-abbrev pub part_segments : TracePart → List Segment
-part_segments part = begin_segments part.begin ++ phase_if_any part.items
+abbrev pub segments_of_part : TracePart → List Segment
+segments_of_part part = segments_of_begin part.begin ++ phase_if_any part.items
 
-abbrev pub segments_in : List TracePart → List Segment
-segments_in parts = flat_map part_segments parts
+abbrev pub segments_of_parts : List TracePart → List Segment
+segments_of_parts parts = flat_map segments_of_part parts

@@ -30,7 +30,7 @@ impl TraceCopy {
     ghost use Rattle.vms_script.specs.Common.{IsPhaseScript};
     ghost use Rattle.vms_command.specs.Common.{SomeLine, most_lines};
     ghost use Rattle.vms_trace_parts.specs.Parts.{TracePart, begin_of, parts_of};
-    ghost use Rattle.vms_trace_parts.specs.BodyStates.{StandsBefore, TakesCounted, held_begin, held_part};
+    ghost use Rattle.vms_trace_parts.specs.BodyStates.{StandsBefore, TakesLine, held_begin, held_part};
 
     /// Takes the line of this number, which counts.
     fn take(
@@ -43,7 +43,7 @@ impl TraceCopy {
         requires header { IsHeader header.now }
         requires line { SomeLine (StandsBefore self.old) header.now number (Ok line.now) }
         requires most { number ≤ most_lines }
-        ensures { TakesCounted header.now number line.now self.old self.new (parts_of parts.old) (parts_of parts.new)
+        ensures { TakesLine header.now number (Ok line.now) self.old self.new (parts_of parts.old) (parts_of parts.new)
             result }
     {
         match *line {
@@ -57,7 +57,7 @@ impl TraceCopy {
     fn keep(&mut self, number: u32, lane: Lane, act: Act) -> Result<(), Memory>
         requires { IsKeepableLane lane }
         ensures { (header : Header) (parts : List TracePart) →
-            TakesCounted header number (Line.Lane lane act) self.old self.new parts parts result }
+            TakesLine header number (Ok (Line.Lane lane act)) self.old self.new parts parts result }
     {
         self.items.push(Item {
             number,
@@ -76,7 +76,7 @@ impl TraceCopy {
         boundary: Boundary,
     ) -> Result<(), Memory>
         requires { IsPhaseScript self.old.items.items }
-        ensures { TakesCounted header.now number (Line.Boundary boundary) self.old self.new (parts_of parts.old)
+        ensures { TakesLine header.now number (Ok (Line.Boundary boundary)) self.old self.new (parts_of parts.old)
             (parts_of parts.new) result }
     {
         self.end_part(parts, header)?;

@@ -9,4 +9,4 @@ mod parts;
 
 pub use copying::copy_trace;
 pub use laws::copies_texts;
-pub use parts::{Part, PartBegin, TraceParts};
+pub use parts::{Part, TraceParts};

@@ -6,9 +6,11 @@ use vms_base::{Header, Memory};
 use vms_line::Boundary;
 use vms_script::PhaseScript;
 
+const _: () = prove!(size_of::<Part>() == 40);
+
 /// Where a part begins.
 #[derive(Debug, Drop)]
-pub enum PartBegin {
+pub(crate) enum PartBegin {
     /// After the header of the trace.
     AfterHeader(Box<Header>),
     /// With the boundary line of this number, counted from 1.
