@@ -21,7 +21,7 @@ use Rattle.vms_history_checks.specs.Accepts.{events_in}
 use Rattle.vms_recorded.specs.Histories.{IsRecordedHistory, history_lines}
 use Rattle.vms_certifying.specs.Certificates.{HasHistory, IsCertified}
 use Rattle.vms_certify.specs.KernelRules.{kernel_rules}
-use Rattle.vms_recorded_texts.specs.RecordedTexts.{AreShort, counted_text, recorded_text}
+use Rattle.vms_recorded_texts.specs.RecordedTexts.{AreShort, counted_text}
 use Rattle.vms_recorded_texts.proofs.HistoriesRead.{events_in-reverse, histories-read, leads-legal, one_line-first}
 use Rattle.vms_recorded_texts.proofs.SameSegments.{IsWrittenHistory-same}
 use Rattle.vms_recorded_texts.proofs.TracesRead.{come_to-counted, lines-again, none-ends, none-refused, segments-again}
@@ -45,6 +45,10 @@ sentences-split (words ∷ lines) rest =
 abbrev ending : List ℕ
 ending = joined (codes "history" ∷ codes "1" ∷ [])
 
+-- a copy with this header and of this body, and these histories
+abbrev pub text_with : Header → List (List ℕ) → List History → List ℕ
+text_with header body hs = spelled_header header ++ counted_text header body ++ history_line ++ history_lines hs
+
 module _ (one_spelling : LinesHaveOneSpelling) (header : Header) (writable : IsWritable header) (body : List (List ℕ))
     (hs : List History) where
   abbrev head : List (List ℕ)
@@ -60,7 +64,7 @@ module _ (one_spelling : LinesHaveOneSpelling) (header : Header) (writable : IsW
   abbrev rest : List ℕ
   rest = history_line ++ history_lines hs
 
-  parts : recorded_text header body hs
+  parts : text_with header body hs
       ≡ spelled_header header ++ (flat_map (spelled_line header) (counted header [] body) ++ rest)
   parts =
       append_assoc (spelled_header header ++ counted_text header body) history_line (history_lines hs)
@@ -69,7 +73,7 @@ module _ (one_spelling : LinesHaveOneSpelling) (header : Header) (writable : IsW
       (come_to-counted header nothing_above body)
 
   -- the lines of the whole text
-  lines-are : lines_of (recorded_text header body hs) ≡ head ++ (trace ++ ending ∷ history)
+  lines-are : lines_of (text_with header body hs) ≡ head ++ (trace ++ ending ∷ history)
   lines-are =
       ap lines_of parts
       ∙ sentences-split (header_words header) (flat_map (spelled_line header) (counted header [] body) ++ rest)
@@ -83,7 +87,7 @@ module _ (one_spelling : LinesHaveOneSpelling) (header : Header) (writable : IsW
       (lines_of-sentences (header_words header) (header_words-few header writable))
       ∙ length-map (header_words header) joined
 
-  has-history : HasHistory (lines_of (recorded_text header body hs)) header (suc (length (header_words header))) trace
+  has-history : HasHistory (lines_of (text_with header body hs)) header (suc (length (header_words header))) trace
       history
   has-history = record {
     ending = ending;
@@ -101,7 +105,7 @@ module _ (one_spelling : LinesHaveOneSpelling) (header : Header) (writable : IsW
   pub certified-again : (n : ℕ) → IsRecordedHistory header (contents_of header n body).segments hs
       → IsWrittenHistory header (ByFormula pressure_threshold_of) (ByFormula normal_threshold_of)
       (contents_of header n body).segments hs → AreShort hs
-      → IsCertified kernel_rules (lines_of (recorded_text header body hs)) (length hs) (events_in hs) 0
+      → IsCertified kernel_rules (lines_of (text_with header body hs)) (length hs) (events_in hs) 0
   certified-again n recorded written short =
       let first = suc (length (header_words header)) in
       let again = segments_of (numbered_lines header [] first trace) in

@@ -3,3 +3,4 @@ pub mod StepsOfLayouts
 pub mod HistoriesRead
 pub mod TracesRead
 pub mod CertifiedAgain
+pub mod ShortHistories
