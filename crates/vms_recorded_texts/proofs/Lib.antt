@@ -4,3 +4,6 @@ pub mod HistoriesRead
 pub mod TracesRead
 pub mod CertifiedAgain
 pub mod ShortHistories
+pub mod OneCertificate
+pub mod WholeTexts
+pub mod AnsweredTexts

@@ -1,7 +1,8 @@
 -- What a recording writes of a trace: its header and its lines that count, each in its one spelling, and the written
 -- history of its phases.
 use Rattle.std.specs.Prelude.{◌≡◌, ◌<◌, ◌≤◌, ◌^◌, ℕ, suc, List, [], ◌++◌, All, drop, flat_map, length, reverse, Result}
-use Rattle.std.specs.Prelude.{Ok, Err}
+use Rattle.std.specs.Prelude.{Option, Ok, Err}
+use Rattle.std.specs.Io.KnownBytes.{IsAtEnd}
 use Rattle.vms_core.specs.Pages.{History}
 use Rattle.vms_text.specs.Common.{lines_of}
 use Rattle.vms_header.specs.Common.{Fault, read_header, spelled_header}
@@ -67,5 +68,5 @@ IsAnswer hs _ output = ⊥
 -- it answers nothing else to a text of at most so many bytes: it finds no line at fault
 abbrev pub RecordedTextsHaveNoFault : Type 0
 RecordedTextsHaveNoFault = (lines : List (List ℕ)) (hs : List History) (status : Status) (output : List ℕ)
-    (at_end : Type 0) → IsRecordingOf lines hs → AreShort hs → length (recorded_text lines hs) ≤ most_bytes
-    → SaysCertify kernel_rules status (recorded_text lines hs) output at_end → IsAnswer hs status output
+    (left : Option (List ℕ)) → IsRecordingOf lines hs → AreShort hs → length (recorded_text lines hs) ≤ most_bytes
+    → SaysCertify kernel_rules status (recorded_text lines hs) output (IsAtEnd left) → IsAnswer hs status output

@@ -3,4 +3,4 @@
 
 mod laws;
 
-pub use laws::recorded_texts_are_certified;
+pub use laws::{recorded_texts_are_certified, recorded_texts_have_no_fault};
