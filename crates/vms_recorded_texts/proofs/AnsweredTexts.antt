@@ -20,6 +20,11 @@ use Rattle.vms_recorded_texts.specs.RecordedTexts.{IsAnswer}
 use Rattle.vms_recorded_texts.proofs.OneCertificate.{one-certificate}
 use Rattle.vms_recorded_texts.proofs.WholeTexts.{EndsLine, taken-are}
 
+-- a header that is read isn't refused
+read-or_refused : (lines : List (List ℕ)) (fault : Fault) (header : Header) (count : ℕ)
+    → read_header lines ≡ Err fault → read_header lines ≡ Ok (header, count) → ⊥
+read-or_refused lines fault header count refused read = cc
+
 module _ (faults : FaultsAreFinal kernel_rules) (cuts : CutOffAreNone kernel_rules) (lacks : LacksAreNone kernel_rules)
   where
     -- a certified text has no line at fault
@@ -44,9 +49,8 @@ module _ (faults : FaultsAreFinal kernel_rules) (cuts : CutOffAreNone kernel_rul
     answer-is text hs Words output at_end ends within is says = says
     answer-is text hs statuses.Header output at_end ends within is says =
         let lines = taken-are text says.lines at_end ends within says.judged in
-        let clash : Err says.fault ≡ Ok (is.header, is.has.header_is.count) =
-        sym says.refused ∙ ap read_header lines ∙ is.has.header_is.header_is in
-        absurd cc
+        read-or_refused (lines_of text) says.fault is.header is.has.header_is.count
+        (sym (ap read_header lines) ∙ says.refused) is.has.header_is.header_is
     answer-is text hs Refused output at_end ends within is says =
         let numbers = one-certificate (lines_of text) says.phases says.events says.refusals (length hs) (events_in hs) 0
         says.certified is in

@@ -21,7 +21,8 @@ use Rattle.vms_history_checks.specs.Accepts.{events_in}
 use Rattle.vms_recorded.specs.Histories.{IsRecordedHistory, history_lines}
 use Rattle.vms_certifying.specs.Certificates.{HasHistory, IsCertified}
 use Rattle.vms_certify.specs.KernelRules.{kernel_rules}
-use Rattle.vms_recorded_texts.specs.RecordedTexts.{AreShort, counted_text}
+use Rattle.vms_trace_parts.specs.Common.{counted_text}
+use Rattle.vms_recorded_texts.specs.RecordedTexts.{AreShort}
 use Rattle.vms_recorded_texts.proofs.HistoriesRead.{events_in-reverse, histories-read, leads-legal, one_line-first}
 use Rattle.vms_recorded_texts.proofs.SameSegments.{IsWrittenHistory-same}
 use Rattle.vms_recorded_texts.proofs.TracesRead.{come_to-counted, lines-again, none-ends, none-refused, segments-again}

@@ -65,3 +65,24 @@ histories-short [] few = All-nil (λ h. length h < 2 ^ 32)
 histories-short (h ∷ hs) few =
     let lines = phase-line h (history_lines hs) in
     All-cons (λ h. length h < 2 ^ 32) h hs (omega (arith, lines, few)) (histories-short hs (omega (arith, lines, few)))
+
+-- and a byte at least
+events-bytes : (h : History) → length h ≤ length (event_lines h)
+events-bytes [] = omega arith
+events-bytes (e ∷ h) =
+    let words = decimal e.caller ∷ step_words (widened e.step) in
+    omega (
+      arith,
+      events-bytes h,
+      length-append (event_lines h) (sentence words),
+      length-append (joined words) (10 ∷ []),
+    )
+
+pub histories-few_bytes : (hs : List History) → length (history_lines hs) < 2 ^ 32 → AreShort hs
+histories-few_bytes [] few = All-nil (λ h. length h < 2 ^ 32)
+histories-few_bytes (h ∷ hs) few =
+    let whole = length-append (phase_lines h) (history_lines hs) in
+    let phase = length-append phase_line (event_lines h) in
+    let events = events-bytes h in
+    All-cons (λ h. length h < 2 ^ 32) h hs (omega (arith, whole, phase, events, few))
+    (histories-few_bytes hs (omega (arith, whole, few)))

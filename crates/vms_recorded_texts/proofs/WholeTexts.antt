@@ -14,7 +14,8 @@ use Rattle.vms_phase_lines.specs.Common.{event_lines}
 use Rattle.vms_written_lines.specs.Spelling.{history_line, phase_line, step_words}
 use Rattle.vms_written_lines.specs.WideSteps.{widened}
 use Rattle.vms_recorded.specs.Histories.{history_lines, phase_lines}
-use Rattle.vms_recorded_texts.specs.RecordedTexts.{copied_text, recorded_text}
+use Rattle.vms_trace_parts.specs.Common.{copied_text}
+use Rattle.vms_recorded_texts.specs.RecordedTexts.{recorded_text}
 
 -- the last byte ends a line
 abbrev pub EndsLine : List ℕ → Type 0

@@ -1,34 +1,23 @@
 -- What a recording writes of a trace: its header and its lines that count, each in its one spelling, and the written
 -- history of its phases.
-use Rattle.std.specs.Prelude.{◌≡◌, ◌<◌, ◌≤◌, ◌^◌, ℕ, suc, List, [], ◌++◌, All, drop, flat_map, length, reverse, Result}
-use Rattle.std.specs.Prelude.{Option, Ok, Err}
+use Rattle.std.specs.Prelude.{◌≡◌, ◌⊎◌, ◌<◌, ◌≤◌, ◌^◌, ℕ, suc, List, ◌++◌, All, drop, length, Option, Ok}
 use Rattle.std.specs.Io.KnownBytes.{IsAtEnd}
 use Rattle.vms_core.specs.Pages.{History}
 use Rattle.vms_text.specs.Common.{lines_of}
-use Rattle.vms_header.specs.Common.{Fault, read_header, spelled_header}
-use Rattle.vms_line.specs.Common.{spelled_line}
+use Rattle.vms_header.specs.Common.{read_header}
 use Rattle.vms_script.specs.Segments.{contents_of}
 use Rattle.vms_stream.specs.Common.{most_bytes}
 use Rattle.vms_stream.specs.declared.statuses.Status.{Status}
 use Rattle.vms_stream.specs.declared.statuses.Status.TheVariants.{Done, Memory, ReadFault, TooLong, WriteFault}
-use Rattle.vms_command.specs.Common.{come_to, most_lines, nothing_above}
+use Rattle.vms_command.specs.Common.{most_lines}
 use Rattle.vms_world.specs.Common.{Header}
 use Rattle.vms_written_lines.specs.Spelling.{history_line}
 use Rattle.vms_history_checks.specs.Accepts.{events_in}
+use Rattle.vms_trace_parts.specs.Common.{copied_text}
 use Rattle.vms_recorded.specs.Histories.{IsRecordedHistory, history_lines}
 use Rattle.vms_certifying.specs.Certificates.{IsCertified, SaysCertify}
 use Rattle.vms_certifying.specs.Printing.{certified_line}
 use Rattle.vms_certify.specs.KernelRules.{kernel_rules}
-
-abbrev pub counted_text : Header → List (List ℕ) → List ℕ
-counted_text header body = flat_map (spelled_line header) (reverse (come_to header nothing_above body).lines)
-
-abbrev pub text_under : Result (Header × ℕ) Fault → List (List ℕ) → List ℕ
-text_under (Err fault) lines = []
-text_under (Ok (header, count)) lines = spelled_header header ++ counted_text header (drop count lines)
-
-abbrev pub copied_text : List (List ℕ) → List ℕ
-copied_text lines = text_under (read_header lines) lines
 
 -- the copy of a trace with these lines, and these histories of its phases after it
 abbrev pub recorded_text : List (List ℕ) → List History → List ℕ
@@ -50,10 +39,11 @@ abbrev pub RecordedTextsAreCertified : Type 0
 RecordedTextsAreCertified = (lines : List (List ℕ)) (hs : List History) → IsRecordingOf lines hs → AreShort hs
     → IsCertified kernel_rules (lines_of (recorded_text lines hs)) (length hs) (events_in hs) 0
 
--- no list is longer where the text has no more lines than a command takes
+-- no list is longer where the text has no more lines, or no more bytes, than a command takes
 abbrev pub TextsWithinLimitsAreShort : Type 0
 TextsWithinLimitsAreShort = (lines : List (List ℕ)) (hs : List History)
-    → length (lines_of (recorded_text lines hs)) ≤ most_lines → AreShort hs
+    → (length (lines_of (recorded_text lines hs)) ≤ most_lines) ⊎ (length (recorded_text lines hs) ≤ most_bytes)
+    → AreShort hs
 
 -- what `certify` may answer to the text: the line that says so, with the status of no fault, and else it wasn't judged
 -- to its end, as a device failed, memory ran out, or a limit was exceeded
@@ -68,5 +58,5 @@ IsAnswer hs _ output = ⊥
 -- it answers nothing else to a text of at most so many bytes: it finds no line at fault
 abbrev pub RecordedTextsHaveNoFault : Type 0
 RecordedTextsHaveNoFault = (lines : List (List ℕ)) (hs : List History) (status : Status) (output : List ℕ)
-    (left : Option (List ℕ)) → IsRecordingOf lines hs → AreShort hs → length (recorded_text lines hs) ≤ most_bytes
+    (left : Option (List ℕ)) → IsRecordingOf lines hs → length (recorded_text lines hs) ≤ most_bytes
     → SaysCertify kernel_rules status (recorded_text lines hs) output (IsAtEnd left) → IsAnswer hs status output
