@@ -1,8 +1,8 @@
 -- What `certify` may answer to a recorded text.
-use Rattle.std.proofs.Common.{◌≡◌, ℕ, ◌+◌, ◌≤◌, List, [], ◌++◌, length, sym, ap, ap₂, subst, ◌∙◌, append-nil, arith, inl, inr}
-use Rattle.std.specs.Prelude.{Result, Ok, Err}
+use Rattle.std.proofs.Common.{◌≡◌, ℕ, ◌≤◌, List, [], length, sym, ap, ap₂, subst, ◌∙◌, append-nil, arith, inl, inr}
+use Rattle.std.specs.Prelude.{Ok, Err}
 use Rattle.vms_core.specs.Pages.{History}
-use Rattle.vms_base.specs.declared.headers.Header.{Header}
+use Rattle.vms_world.specs.Common.{Header, lines_of}
 use Rattle.vms_header.specs.Common.{Fault, read_header}
 use Rattle.vms_phase_checks.specs.declared.faults.EventCause.{EventCause}
 use Rattle.vms_stream.specs.Common.{most_bytes}
@@ -10,7 +10,6 @@ use Rattle.vms_stream.specs.declared.statuses.Status.{Status}
 use Rattle.vms_stream.specs.declared.statuses.Status.TheVariants.{Done, Words, Refused, ReadFault, WriteFault, Memory}
 use Rattle.vms_stream.specs.declared.statuses.Status.TheVariants.{NotCertified, TooLong}
 use Rattle.vms_stream.specs.declared.statuses.Status.TheVariants as statuses
-use Rattle.vms_text.specs.Common.{lines_of}
 use Rattle.vms_history_checks.specs.Accepts.{events_in}
 use Rattle.vms_certifying.specs.Certificates.{IsAtFault, IsCertified, SaysCertify}
 use Rattle.vms_certifying.specs.Laws.{CutOffAreNone, FaultsAreFinal, LacksAreNone}

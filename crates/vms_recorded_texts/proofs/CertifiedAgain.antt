@@ -4,17 +4,15 @@ use Rattle.std.proofs.Common.{append_assoc}
 use Rattle.std.proofs.lemmas.List.{drop_at, length-map, length-reverse, reverse-reverse}
 use Rattle.std.specs.Prelude.{codes, reverse}
 use Rattle.vms_core.specs.Pages.{History}
-use Rattle.vms_text.specs.declared.acts.Line.{Line}
-use Rattle.vms_text.specs.Common.{joined, lines_of, sentence}
+use Rattle.vms_world.specs.Common.{Line, lines_of, sentence, spelled_line, numbered_lines, segments_of, contents_of}
+use Rattle.vms_world.specs.Common.{Header, normal_threshold_of, pressure_threshold_of}
+use Rattle.vms_text.specs.Words.{joined}
 use Rattle.vms_text.proofs.Common.{lines_of-append}
 use Rattle.vms_header.specs.Common.{IsWritable, header_words, read_header, spelled_header}
 use Rattle.vms_header.proofs.Common.{HeadersReadBack-holds, header_words-few, lines_of-sentences}
-use Rattle.vms_line.specs.Common.{LinesHaveOneSpelling, spelled_line}
-use Rattle.vms_script.specs.Common.{numbered_lines, segments_of}
-use Rattle.vms_script.specs.Segments.{contents_of}
+use Rattle.vms_line.specs.Laws.{LinesHaveOneSpelling}
 use Rattle.vms_command.specs.Common.{nothing_above}
 use Rattle.vms_walks.specs.Rules.{ByFormula}
-use Rattle.vms_world.specs.Common.{Header, normal_threshold_of, pressure_threshold_of}
 use Rattle.vms_written.specs.Common.{IsWrittenHistory}
 use Rattle.vms_written_lines.specs.Spelling.{history_line}
 use Rattle.vms_history_checks.specs.Accepts.{events_in}

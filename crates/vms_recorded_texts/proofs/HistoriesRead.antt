@@ -5,12 +5,10 @@ use Rattle.std.proofs.lemmas.List.{reverse-append}
 use Rattle.std.proofs.lemmas.List.Elements.{All-head, All-tail}
 use Rattle.std.proofs.lemmas.List.Sums.{sum_by-append, sum_by-cons}
 use Rattle.std.specs.Prelude.{option_and_then, reverse}
-use Rattle.vms_core.specs.Common.{History, IsLegal, state_after}
-use Rattle.vms_core.specs.declared.steps.Step.{Step}
-use Rattle.vms_text.specs.Common.{lines_of}
+use Rattle.vms_core.specs.Pages.{History, IsLegal, state_after}
+use Rattle.vms_world.specs.Common.{Step, lines_of, Between, Header, Phase, Segment, State, facts_of, settled}
 use Rattle.vms_text.proofs.Common.{lines_of-append}
 use Rattle.vms_phase_lines.specs.Common.{event_lines}
-use Rattle.vms_world.specs.Common.{Between, Header, Phase, Segment, State, facts_of, settled}
 use Rattle.vms_written_lines.specs.declared.lines.WrittenLine.{WrittenLine}
 use Rattle.vms_written_lines.specs.declared.lines.WrittenLine.TheVariants as said
 use Rattle.vms_written_lines.specs.Laws.{ReadsBack}

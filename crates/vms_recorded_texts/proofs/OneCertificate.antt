@@ -1,10 +1,10 @@
 -- What is certified of a text is so with one number of phases, of events and of refused lines.
-use Rattle.std.proofs.Common.{◌≡◌, ℕ, suc, Bool, true, false, List, [], ◌∷◌, ◌++◌, drop, length, refl, sym, ap, ◌∙◌}
-use Rattle.std.proofs.Common.{if◌then◌else◌, Option, Some, None}
+use Rattle.std.proofs.Common.{◌≡◌, ℕ, true, false, List, [], ◌∷◌, ◌++◌, drop, length, sym, ap, ◌∙◌, if◌then◌else◌}
+use Rattle.std.proofs.Common.{Option, Some, None}
 use Rattle.std.proofs.lemmas.List.Elements.{All-head, All-tail}
 use Rattle.std.specs.Prelude.{Result, Ok, Err}
 use Rattle.vms_core.specs.Pages.{History}
-use Rattle.vms_base.specs.declared.headers.Header.{Header}
+use Rattle.vms_world.specs.Common.{Header}
 use Rattle.vms_header.specs.Common.{Fault, read_header}
 use Rattle.vms_history_checks.specs.Accepts.{events_in}
 use Rattle.vms_history_judge.specs.WrittenRules.{lists_of}

@@ -4,13 +4,10 @@ use Rattle.std.proofs.Common.{◌∙◌, if◌then◌else◌}
 use Rattle.std.specs.Prelude.{Result, Ok, Err, filter}
 use Rattle.vms_core.specs.Pages.{History}
 use Rattle.vms_core.specs.Steps.{role}
-use Rattle.vms_text.specs.declared.acts.Line.{Line}
-use Rattle.vms_text.specs.declared.acts.Line.TheVariants.{Blank, Lane as LaneLine, Boundary}
-use Rattle.vms_line.specs.declared.causes.LineCause.{LineCause}
-use Rattle.vms_script.specs.Common.{is_lane, segments_with, segments_with_item}
-use Rattle.vms_world.specs.Common.{Act, Between, Cpu, Control, Header, Item, Lane, MakesActs, MayCross, PageSteps, Phase}
-use Rattle.vms_world.specs.Common.{Segment, Shape, State, ZoneSize, acts_of, has_line, is_among, lanes_of}
-use Rattle.vms_world.specs.Lanes.{lanes_below}
+use Rattle.vms_world.specs.Common.{Line, Blank, LineCause, is_lane, segments_with, segments_with_item, Act, Between}
+use Rattle.vms_world.specs.Common.{Cpu, Control, Header, Item, Lane, MakesActs, MayCross, PageSteps, Phase, Segment}
+use Rattle.vms_world.specs.Common.{Shape, State, ZoneSize, acts_of, has_line, is_among, lanes_of, lanes_below}
+use Rattle.vms_text.specs.declared.acts.Line.TheVariants.{Lane as LaneLine, Boundary}
 use Rattle.vms_written.specs.Common.{CrossesPages, HasPassEach, IsWrittenHistory, IsWrittenPhase, LeadsThrough}
 
 -- the same lanes and acts

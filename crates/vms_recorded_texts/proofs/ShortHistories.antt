@@ -1,15 +1,16 @@
 -- A text of recorded histories has a line for each event.
-use Rattle.std.proofs.Common.{◌≡◌, ℕ, suc, ◌+◌, ◌<◌, ◌≤◌, ◌^◌, ◌==◌, List, [], ◌∷◌, ◌++◌, length, length-append, sym, ap, ◌∙◌}
-use Rattle.std.proofs.Common.{append_assoc, arith, subst}
+use Rattle.std.proofs.Common.{ℕ, suc, ◌+◌, ◌<◌, ◌≤◌, ◌^◌, ◌==◌, List, [], ◌∷◌, ◌++◌, length, length-append, sym, ap}
+use Rattle.std.proofs.Common.{◌∙◌, append_assoc, arith, subst}
 use Rattle.std.proofs.lemmas.List.Elements.{All-cons, All-nil}
 use Rattle.std.proofs.lemmas.List.Splits.{length-slice_split}
 use Rattle.std.specs.List.{slice_split}
-use Rattle.std.specs.Prelude.{All, codes, decimal}
+use Rattle.std.specs.Prelude.{codes, decimal}
 use Rattle.vms_core.specs.Pages.{History}
-use Rattle.vms_text.specs.Common.{joined, lines_of, sentence}
+use Rattle.vms_text.specs.Words.{joined}
+use Rattle.vms_world.specs.Common.{lines_of, sentence}
 use Rattle.vms_text.proofs.Common.{lines_of-ended}
 use Rattle.vms_phase_lines.specs.Common.{event_lines}
-use Rattle.vms_written_lines.specs.Spelling.{event_line, history_line, phase_line, step_words}
+use Rattle.vms_written_lines.specs.Spelling.{event_line, phase_line, step_words}
 use Rattle.vms_written_lines.specs.WideSteps.{widened}
 use Rattle.vms_recorded.specs.Histories.{history_lines, phase_lines}
 use Rattle.vms_recorded_texts.specs.RecordedTexts.{AreShort}

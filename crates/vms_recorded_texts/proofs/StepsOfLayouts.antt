@@ -1,22 +1,20 @@
 -- The steps of a legal history of fewer than 2^32 events are of its layout, and their numbers fit.
-use Rattle.std.proofs.Common.{ℕ, suc, ◌<◌, ◌≤◌, ◌^◌, ◌&&◌, Bool, true, false, [], ◌∷◌, length}
-use Rattle.std.proofs.Common.{arith, Some, None, nat_eq, if◌then◌else◌}
+use Rattle.std.proofs.Common.{ℕ, suc, ◌<◌, ◌≤◌, ◌^◌, ◌&&◌, Bool, true, false, [], ◌∷◌, length, arith, Some, None}
+use Rattle.std.proofs.Common.{nat_eq, if◌then◌else◌}
 use Rattle.std.proofs.lemmas.Int.{ints}
 use Rattle.vms_base.proofs.Common.{place_of-lt}
-use Rattle.vms_history.specs.Common.{Begins, Ends, IsLayout, IsPlace, IsZone, Role, Shape, Works}
-use Rattle.vms_history.specs.Common.{begun, begun_after, begun_in, own, place_of}
-use Rattle.vms_history.specs.declared.events.Event.{Event}
+use Rattle.vms_history.specs.Passes.Role.{Begins}
+use Rattle.vms_world.specs.Common.{Ends, IsLayout, IsPlace, IsZone, Role, Shape, Works, begun, begun_after, begun_in}
+use Rattle.vms_world.specs.Common.{own, place_of, Event, Facts, Step, LoadT, LoadD, Put, Miss, AddG, AddS, Take, LoadG}
+use Rattle.vms_world.specs.Common.{LoadS, LoadM, LoadO, SetT, SetM, SetO, SetA, mark_sets_at, pages, KeepsLaws}
+use Rattle.vms_world.specs.Common.{sets_after, mark_sets_after}
 use Rattle.vms_history.proofs.Common.{base_can_begin, caller_is_given, live_is_given}
-use Rattle.vms_core.specs.declared.steps.Facts.{Facts}
-use Rattle.vms_core.specs.declared.steps.Step.{Step}
-use Rattle.vms_core.specs.declared.steps.Step.TheVariants.{LoadT, LoadD, Put, Miss, AddG, AddS, Take, LoadG, LoadS}
-use Rattle.vms_core.specs.declared.steps.Step.TheVariants.{LoadM, LoadO, SetT, SetM, SetO, SetA, LoadA, Split, Join}
-use Rattle.vms_core.specs.Common.{History, IsLegal, mark_sets_at, pages, role, state_after}
+use Rattle.vms_core.specs.declared.steps.Step.TheVariants.{LoadA, Split, Join}
+use Rattle.vms_core.specs.Pages.{History, IsLegal, state_after}
+use Rattle.vms_core.specs.Steps.{role}
 use Rattle.vms_core.specs.Knowledge.{NameEight}
-use Rattle.vms_core.specs.Laws.{KeepsLaws}
 use Rattle.vms_core.specs.PeakLaws.{OwnsNow}
-use Rattle.vms_core.specs.Peaks.{sets, sets_after}
-use Rattle.vms_core.specs.Effects.{mark_sets_after}
+use Rattle.vms_core.specs.Peaks.{sets}
 use Rattle.vms_core.proofs.Common.{laws-kept, mark_sets_at-newest}
 use Rattle.vms_written_lines.specs.Laws.{IsStepOf}
 use Rattle.vms_written_lines.proofs.NarrowSteps.{IsNarrow}
@@ -88,8 +86,8 @@ module _ (facts : Facts) (h : History) (p : ℕ) (few : length h < 2 ^ 32) where
   step-fits (Put k w t delta how) (legal, acts, meets) laws eight more =
       let place = place_of-lt facts.layout (base_can_begin pages facts h legal).layout k.number meets.counter in
       let owns : OwnsNow h p meets.cpu = record { lives = acts.1; owner = meets.owns.owner } in
-      let peak = laws.loaded_by_peaks p meets.cpu (place_of facts.layout k.number) (record { t = t; number = meets.number })
-      owns place meets.as_loaded in
+      let peak = laws.loaded_by_peaks p meets.cpu (place_of facts.layout k.number)
+      (record { t = t; number = meets.number }) owns place meets.as_loaded in
       let most = laws.peaks meets.cpu.number (place_of facts.layout k.number) meets.owns.within place in
       let small = meets.affordable in (
         meets.counter,
@@ -125,8 +123,8 @@ module _ (facts : Facts) (h : History) (p : ℕ) (few : length h < 2 ^ 32) where
   step-fits (SetA g a) (legal, acts, meets) laws eight more =
       let place = zone-place facts.layout g.number meets.zone in
       let owns : OwnsNow h p meets.cpu = record { lives = acts.1; owner = meets.owns.owner } in
-      let told = laws.loaded_numbers p meets.cpu g.number (record { t = meets.t; number = a }) owns place meets.as_loaded
-      in
+      let told = laws.loaded_numbers p meets.cpu g.number (record { t = meets.t; number = a }) owns place
+      meets.as_loaded in
       (place, omega (arith, told.within, sets-few meets.cpu.number g.number h, few))
   step-fits (LoadA c g None) (legal, acts, meets) laws eight more =
       (meets.cpu, zone-place facts.layout g.number meets.zone, tt)

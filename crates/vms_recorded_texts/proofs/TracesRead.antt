@@ -1,23 +1,23 @@
 -- The lines of a body that count, each in its one spelling, are read back: as the same segments but for the numbers of
 -- their lines, with no line refused and none that ends a trace.
-use Rattle.std.proofs.Common.{◌≡◌, ℕ, suc, ◌&&◌, Bool, true, false, nat_le, nat_lt, List, [], ◌∷◌, ◌++◌, flat_map, length}
-use Rattle.std.proofs.Common.{refl, sym, ap, subst, ◌∙◌, append-nil, append_assoc, if◌then◌else◌}
+use Rattle.std.proofs.Common.{◌≡◌, ℕ, suc, ◌&&◌, Bool, true, false, nat_le, nat_lt, List, [], ◌∷◌, ◌++◌, flat_map}
+use Rattle.std.proofs.Common.{length, refl, sym, ap, subst, ◌∙◌, append-nil, append_assoc, if◌then◌else◌}
 use Rattle.std.proofs.lemmas.List.{append_cancel_right, reverse-append}
 use Rattle.std.proofs.lemmas.List.Elements.{All-cons, All-nil}
 use Rattle.std.specs.Prelude.{All, Result, Ok, Err, bytes_eq, reverse}
 use Rattle.std.specs.Cmp.Lexicographic.{pointwise}
-use Rattle.vms_base.specs.Common.{IsHeader}
-use Rattle.vms_base.specs.declared.headers.Header.{Header}
-use Rattle.vms_text.specs.declared.acts.Boundary.TheVariants.{Sync, Offline, Online, Flush, Report}
-use Rattle.vms_text.specs.declared.acts.Lane.TheVariants.{Cpu, Control}
-use Rattle.vms_text.specs.declared.acts.Line.{Line}
-use Rattle.vms_text.specs.declared.acts.Line.TheVariants.{Blank, Lane, Boundary}
-use Rattle.vms_text.specs.Common.{and_then, is_ignored, joined, lines_of, most_line, words_of}
-use Rattle.vms_line.specs.declared.causes.LineCause.{LineCause}
+use Rattle.vms_world.specs.Common.{IsHeader, Header, Offline, Flush, Report, Cpu, Control, Line, Blank, lines_of}
+use Rattle.vms_world.specs.Common.{LineCause, spelled_line, allowed, judged, numbered_lines, segments_of, segments_with}
+use Rattle.vms_world.specs.Common.{with_counted}
+use Rattle.vms_text.specs.declared.acts.Boundary.TheVariants.{Sync, Online}
+use Rattle.vms_text.specs.declared.acts.Line.TheVariants.{Lane, Boundary}
+use Rattle.vms_text.specs.Reading.{and_then, is_ignored, most_line}
+use Rattle.vms_text.specs.Words.{joined, words_of}
 use Rattle.vms_line.specs.declared.causes.LineCause.TheVariants.{LineTooLong}
-use Rattle.vms_line.specs.Common.{LinesHaveOneSpelling, ReadsBack, line_words, read_line, spelled_line}
+use Rattle.vms_line.specs.Laws.{LinesHaveOneSpelling, ReadsBack}
+use Rattle.vms_line.specs.Spelling.{line_words}
+use Rattle.vms_line.specs.Body.{read_line}
 use Rattle.vms_line.proofs.Common.{LinesReadBack-holds}
-use Rattle.vms_script.specs.Common.{allowed, judged, numbered_lines, segments_of, segments_with, with_counted}
 use Rattle.vms_script.proofs.Common.{judged-known, judged-read}
 use Rattle.vms_command.specs.Common.{LinesAbove, come_to, with_judged}
 use Rattle.vms_certifying.specs.HistoryLines.{history_words, is_history_line}
@@ -121,7 +121,8 @@ module _ (one_spelling : LinesHaveOneSpelling) (header : Header) (is_header : Is
     one_line = λ rest. one_line-first (spelled_line header line) (spelled_text header line) rest refl
         (back.one_line ∙ ap (λ (t : List ℕ). t ∷ []) (sym same));
     judged_is = ap (λ (r : Result Line LineCause). and_then r (allowed header above)) read
-        ∙ ap (λ (r : Result Line LineCause). and_then r (allowed header above)) (sym (judged-read header above text line counts))
+        ∙ ap (λ (r : Result Line LineCause). and_then r (allowed header above))
+        (sym (judged-read header above text line counts))
         ∙ counts;
     goes_on =
         ap (λ (words : List (List ℕ)). nat_le (length (spelled_text header line)) most_line

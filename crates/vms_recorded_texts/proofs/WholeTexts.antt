@@ -1,14 +1,14 @@
 -- A recorded text ends with the end of a line: its whole lines are its lines.
-use Rattle.std.proofs.Common.{◌≡◌, ℕ, ◌<◌, ◌≤◌, ◌==◌, List, [], ◌∷◌, ◌++◌, length, refl, sym, ap, ◌∙◌, append-nil}
-use Rattle.std.proofs.Common.{append_assoc, arith, inl, inr, ◌⊎◌, subst}
+use Rattle.std.proofs.Common.{◌≡◌, ℕ, ◌≤◌, ◌==◌, List, [], ◌∷◌, ◌++◌, length, refl, sym, ap, ◌∙◌, append-nil}
+use Rattle.std.proofs.Common.{append_assoc, arith, inl, inr, subst}
 use Rattle.std.proofs.lemmas.List.{take_all}
 use Rattle.std.specs.List.{slice_split}
-use Rattle.std.specs.Prelude.{codes, decimal, take}
+use Rattle.std.specs.Prelude.{codes, decimal}
 use Rattle.vms_core.specs.Pages.{History}
-use Rattle.vms_text.specs.Common.{joined, lines_of, sentence}
+use Rattle.vms_text.specs.Words.{joined}
+use Rattle.vms_world.specs.Common.{lines_of, sentence}
 use Rattle.vms_text.proofs.Common.{lines_of-ended, slice_split-append}
-use Rattle.vms_stream.specs.Common.{AreLinesTaken, lines_taken, most_bytes, whole_lines}
-use Rattle.vms_stream.specs.Pieces.{front_of}
+use Rattle.vms_stream.specs.Common.{AreLinesTaken, most_bytes, whole_lines, front_of}
 use Rattle.vms_stream.proofs.TwoPieces.{front_of-append}
 use Rattle.vms_phase_lines.specs.Common.{event_lines}
 use Rattle.vms_written_lines.specs.Spelling.{history_line, phase_line, step_words}

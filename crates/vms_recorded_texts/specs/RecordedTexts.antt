@@ -3,14 +3,12 @@
 use Rattle.std.specs.Prelude.{◌≡◌, ◌⊎◌, ◌<◌, ◌≤◌, ◌^◌, ℕ, suc, List, ◌++◌, All, drop, length, Option, Ok}
 use Rattle.std.specs.Io.KnownBytes.{IsAtEnd}
 use Rattle.vms_core.specs.Pages.{History}
-use Rattle.vms_text.specs.Common.{lines_of}
+use Rattle.vms_world.specs.Common.{lines_of, contents_of, Header}
 use Rattle.vms_header.specs.Common.{read_header}
-use Rattle.vms_script.specs.Segments.{contents_of}
 use Rattle.vms_stream.specs.Common.{most_bytes}
 use Rattle.vms_stream.specs.declared.statuses.Status.{Status}
 use Rattle.vms_stream.specs.declared.statuses.Status.TheVariants.{Done, Memory, ReadFault, TooLong, WriteFault}
 use Rattle.vms_command.specs.Common.{most_lines}
-use Rattle.vms_world.specs.Common.{Header}
 use Rattle.vms_written_lines.specs.Spelling.{history_line}
 use Rattle.vms_history_checks.specs.Accepts.{events_in}
 use Rattle.vms_trace_parts.specs.Common.{copied_text}

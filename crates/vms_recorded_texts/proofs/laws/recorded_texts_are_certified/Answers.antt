@@ -1,11 +1,9 @@
 -- With the header that is read, and by the lines of the histories.
-use Rattle.std.proofs.Common.{◌≡◌, ℕ, List, [], ◌∷◌, ◌++◌, arith, sym, subst, drop, inl, inr, length}
-use Rattle.std.proofs.Common.{length-append, suc}
+use Rattle.std.proofs.Common.{ℕ, [], ◌∷◌, ◌++◌, arith, sym, subst, drop, inl, inr, length, length-append, suc}
 use Rattle.std.specs.Prelude.{Result, codes}
-use Rattle.vms_base.specs.declared.headers.Header.{Header}
+use Rattle.vms_world.specs.Common.{Header, lines_of}
 use Rattle.vms_header.specs.Common.{Fault}
 use Rattle.vms_header.proofs.Common.{read_header-writable}
-use Rattle.vms_text.specs.Common.{lines_of}
 use Rattle.vms_written_lines.specs.Spelling.{history_line}
 use Rattle.vms_history_checks.specs.Accepts.{events_in}
 use Rattle.vms_recorded.specs.Histories.{history_lines}
