@@ -1,0 +1,9 @@
+pub mod SameSegments
+pub mod StepsOfLayouts
+pub mod HistoriesRead
+pub mod TracesRead
+pub mod CertifiedAgain
+pub mod ShortHistories
+pub mod OneCertificate
+pub mod WholeTexts
+pub mod AnsweredTexts
