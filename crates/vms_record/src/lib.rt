@@ -2,6 +2,8 @@
 #![tactic(auto)]
 
 mod histories;
+mod laws;
 mod tool;
 
+pub use laws::records_are_certified;
 pub use tool::tool_record;

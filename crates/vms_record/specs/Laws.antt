@@ -1,0 +1,31 @@
+-- That what `record` writes is certified.
+use Rattle.std.specs.Prelude.{◌≡◌, ◌≤◌, ℕ, List, length, Option}
+use Rattle.std.specs.Io.KnownBytes.{IsAtEnd}
+use Rattle.vms_core.specs.Pages.{History}
+use Rattle.vms_certify.specs.KernelRules.{kernel_rules}
+use Rattle.vms_certifying.specs.Certificates.{SaysCertify}
+use Rattle.vms_record.specs.Answers.{SaysRecord}
+use Rattle.vms_recorded_texts.specs.RecordedTexts.{IsAnswer, IsRecordingOf, recorded_text}
+use Rattle.vms_stream.specs.Common.{most_bytes}
+use Rattle.vms_stream.specs.declared.statuses.Status.{Status}
+use Rattle.vms_stream.specs.declared.statuses.Status.TheVariants.{Done, Refused}
+use Rattle.vms_text.specs.Common.{lines_of}
+
+-- with these statuses a whole trace was recorded
+abbrev pub IsRecorded : Status → Type 0
+IsRecorded Done = Unit {0}
+IsRecorded Refused = Unit {0}
+IsRecorded _ = ⊥
+
+-- then the recorded text of the input was written
+abbrev pub RecordsItsText : Type 0
+RecordsItsText = (status : Status) (taken written : List ℕ) (at_end : Type 0) → IsRecorded status
+    → SaysRecord status taken written at_end
+    → (hs : List History) × IsRecordingOf (lines_of taken) hs × (written ≡ recorded_text (lines_of taken) hs)
+
+-- and `certify` may answer to it that it is certified, and finds no line at fault
+abbrev pub RecordsAreCertified : Type 0
+RecordsAreCertified = (status verdict : Status) (taken written output : List ℕ) (at_end : Type 0)
+    (left : Option (List ℕ)) → IsRecorded status → SaysRecord status taken written at_end
+    → length written ≤ most_bytes → SaysCertify kernel_rules verdict written output (IsAtEnd left)
+    → (hs : List History) × IsRecordingOf (lines_of taken) hs × IsAnswer hs verdict output
