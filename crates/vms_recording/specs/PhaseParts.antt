@@ -34,6 +34,18 @@ module _ (header : Header) (base : State) (items : List Item) where
     pub parts : moved ++ rest ≡ waiting ++ event_lines more
     pub goes : OnOk result ((waiting' ≡ rest) × IsWriting header base items items (more ++ h) phase')
 
+  -- after these events the rest of the phase is made, or a part of it
+  pub record WritesRest (h : History) (waiting waiting' : List ℕ) (held held' : Option (List ℕ))
+      (result : Result State Status) : Type 0 where
+    pub moved : List ℕ
+    pub appends : Appends held held' moved
+    pub outcome : MatchResult result
+        (λ next. (more : History) × IsPhaseInOrder header base items (more ++ h)
+        × (moved ++ waiting' ≡ waiting ++ event_lines more)
+        × (next ≡ settled (state_after (facts_of header base) (more ++ h))))
+        (λ _. (more : History) × (rest : List ℕ) × IsPartOfPhase (more ++ h)
+        × (moved ++ rest ≡ waiting ++ event_lines more))
+
   -- the phase is made, with the lines that its events have, or it is no further than some part. What was written is
   -- the front
   pub record WritesPhase (waiting waiting' : List ℕ) (held held' : Option (List ℕ)) (result : Result State Status)

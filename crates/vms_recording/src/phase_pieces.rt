@@ -6,7 +6,7 @@ ghost use Rattle.vms_phase_lines.specs.Common.{IsWriting};
 ghost use Rattle.vms_stream.specs.Common.{CountsWrites};
 ghost use Rattle.vms_walks.specs.Walks.{IsPageAct};
 ghost use Rattle.vms_world.specs.Common.{IsHeader, IsLaneOf, State as StateOf};
-ghost use Rattle.vms_recording.specs.PhaseParts.{WritesLines, WritesPhase};
+ghost use Rattle.vms_recording.specs.PhaseParts.{WritesLines, WritesPhase, WritesRest};
 ghost use Rattle.vms_recording.specs.Written.{most_waiting};
 
 use crate::waiting_bytes::write_above;
@@ -38,7 +38,30 @@ pub(crate) fn write_pieces<K: Sink>(
     ensures counts { CountsWrites K.written K.faults result out.old out.new }
 {
     let mut phase = PhaseWriter::begin(waiting, alloc, header, base, items)?;
-    write_lines(&mut phase, waiting, header, items, out)?;
+    write_begun(&mut phase, waiting, alloc, header, items, out)
+}
+
+/// Does so with a phase that has begun.
+fn write_begun<K: Sink>(
+    phase: &mut PhaseWriter,
+    waiting: &mut Vec<u8>,
+    alloc: Global,
+    header: &Header,
+    items: &[Item],
+    out: &mut K,
+) -> Result<State, Status>
+    requires header { IsHeader header.now }
+    requires items { All (λ item. IsLaneOf header.now item.lane × IsPageAct header.now.layout item.lane item.act)
+        items.now }
+    requires writing { (s : StateOf) × (h : History) × IsWriting header.now s items.now [] h phase.old }
+    ensures writes { (s : StateOf) (h : History) → IsWriting header.now s items.now [] h phase.old →
+        WritesRest header.now s items.now h waiting.old.items waiting.new.items (K.written out.old)
+        (K.written out.new) result }
+    ensures few { OnOk result (length waiting.new.items ≤ most_waiting) }
+    ensures cause { IfErr result (λ status. (status ≡ Status.Memory) ⊎ (status ≡ Status.WriteFault)) }
+    ensures counts { CountsWrites K.written K.faults result out.old out.new }
+{
+    write_lines(phase, waiting, header, items, out)?;
     let pages = phase.end(waiting, alloc)?;
     write_above(waiting, out)?;
     Ok(pages)
