@@ -26,16 +26,20 @@ module _ (header : Header) (segments : List Segment) (hs : List History) (start 
     (written : List ℕ) (writer : HistoryWriter) (is : IsRecording header segments hs start s written writer)
     (items : List Item) (waiting' : List ℕ) (held held' : Option (List ℕ)) where
   -- the writing stops
-  pub RecordsPhase-stopped : (error : Status)
-      → WritesPhase header s items writer.waiting.items waiting' held held' (Err error)
+  pub RecordsPhase-stopped : (base : State) → base ≡ s → (error : Status)
+      → WritesPhase header base items writer.waiting.items waiting' held held' (Err error)
       → (writer' : HistoryWriter) (told : Status)
       → RecordsPhase header segments hs start s written items writer' held held' (Err told)
-  RecordsPhase-stopped error made writer' told = record {
+  RecordsPhase-stopped base same error begun writer' told = record {
     moved = made.moved;
     appends = made.appends;
     outcome = by made.outcome;
   }
     where
+      made : WritesPhase header s items writer.waiting.items waiting' held held' (Err error)
+      made = subst (λ (t : State). WritesPhase header t items writer.waiting.items waiting' held held' (Err error)) same
+          begun
+
       by : (made.moved ≡ []) ⊎ ((h : History) × (rest : List ℕ) × IsPartOfPhase header s items h
           × (made.moved ++ rest ≡ writer.waiting.items ++ phase_lines h))
           → StopsInPhase header hs s items (written ++ made.moved)

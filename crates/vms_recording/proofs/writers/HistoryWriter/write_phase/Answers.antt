@@ -1,7 +1,7 @@
 -- A phase that isn't recorded, and one that is.
 use Rattle.std.proofs.Common.{◌≡◌, refl, rules, subst}
 use Rattle.std.proofs.lemmas.Result.{err_from_is_err_and}
-use Rattle.std.specs.Prelude.{Err, Ok, Some}
+use Rattle.std.specs.Prelude.{Ok, Some}
 use Rattle.vms_world.specs.Common.{State}
 use Rattle.vms_recording.specs.Common.{WritesPhase}
 use Rattle.vms_recording.proofs.FittingItems.{acts-known}
@@ -20,10 +20,8 @@ returns-in_err-pages-clause-records g c segments hs start s written is fits =
     let found : c.args.self.now.pages ≡ Some c.in-Some.base = search rules in
     let same : c.in-Some.base ≡ s = one-state c.args.self.now.pages c.in-Some.base s found is.pages in
     rw p.1 (RecordsPhase-stopped c.args.header.now segments hs start s written c.args.self.now is c.args.items.now
-    c.write_pieces.new.waiting.items (g.K.Sink.written c.args.out.now) (g.K.Sink.written c.write_pieces.new.out) _
-    (subst (λ (t : State). WritesPhase c.args.header.now t c.args.items.now c.args.self.now.waiting.items
     c.write_pieces.new.waiting.items (g.K.Sink.written c.args.out.now) (g.K.Sink.written c.write_pieces.new.out)
-    _) same c.in_err-pages.ensures.writes) _ p.0)
+    c.in-Some.base same _ c.in_err-pages.ensures.writes _ p.0)
 
 pub returns-clause-records : goal.returns-clause-records
 returns-clause-records g c segments hs start s written is fits =
