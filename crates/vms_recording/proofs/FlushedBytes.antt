@@ -22,13 +22,16 @@ module _ (header : Header) (segments : List Segment) (hs : List History) (start 
   Flushes-written (Ok _) writes empty = record {
     moved = writes.moved;
     appends = writes.appends;
-    outcome = (record {
-      recorded = is.recorded;
-      pages = same ∙ is.pages;
-      lines = ap (λ (bytes : List ℕ). (written ++ writes.moved) ++ bytes) writes.kept
-          ∙ text writes.moved writes.rest writes.parts;
-      few = subst (λ (bytes : List ℕ). length bytes ≤ most_waiting) (sym empty) (omega arith);
-    }, empty);
+    outcome = (
+      record {
+        recorded = is.recorded;
+        pages = same ∙ is.pages;
+        lines = ap (λ (bytes : List ℕ). (written ++ writes.moved) ++ bytes) writes.kept
+            ∙ text writes.moved writes.rest writes.parts;
+        few = subst (λ (bytes : List ℕ). length bytes ≤ most_waiting) (sym empty) (omega arith);
+      },
+      empty,
+    );
   }
   Flushes-written (Err _) writes empty = record {
     moved = writes.moved;

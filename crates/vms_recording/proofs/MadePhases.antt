@@ -71,7 +71,7 @@ module _ (header : Header) (base : State) (items : List Item) (h : History) (wai
 module _ (header : Header) (base : State) (items : List Item) (waiting last : List ℕ) (held : Option (List ℕ)) where
   -- before its first event
   pub WritesPhase-unbegun : (error : Status) → WritesPhase header base items waiting last held held (Err error)
-  WritesPhase-unbegun error = record { moved = []; appends = Appends-nil held; outcome = inl refl; }
+  WritesPhase-unbegun error = record { moved = []; appends = Appends-nil held; outcome = inl refl }
 
   -- the rest of a phase that has begun
   pub WritesPhase-begun : (h : History) (waiting' : List ℕ) → waiting' ≡ waiting ++ phase_lines h

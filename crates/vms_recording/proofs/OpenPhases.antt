@@ -47,13 +47,14 @@ module _ (header : Header) (s : State) (items : List Item) (h : History) (waitin
 
     -- the front of what waits is written
     pub IsOpen-moved : (held'' : Option (List ℕ)) (front back : List ℕ) → waiting' ≡ front ++ back
-        → Appends held' held'' front → IsOpen n phase back held''
-    IsOpen-moved held'' front back parts appends = record {
+        → Appends held' held'' front → (last : List ℕ) → last ≡ back → IsOpen n phase last held''
+    IsOpen-moved held'' front back parts appends last left = record {
       more = is.more;
       moved = is.moved ++ front;
       writing = is.writing;
       appends = Appends-trans held held' held'' is.moved front is.appends appends;
-      text = front-moved _ is.moved waiting' front back is.text parts;
+      text = ap (λ (bytes : List ℕ). (is.moved ++ front) ++ bytes) left
+          ∙ front-moved (waiting ++ event_lines is.more) is.moved waiting' front back is.text parts;
     }
 
     -- the writing stops here
@@ -78,8 +79,11 @@ module _ (header : Header) (s : State) (items : List Item) (h : History) (waitin
       rest = waiting';
       appends = is.appends;
       parts = is.text;
-      goes = (refl, subst (λ (made : List Item). IsWriting header s items made (is.more ++ h) phase)
-          (take_all n items past) is.writing);
+      goes = (
+        refl,
+        subst (λ (made : List Item). IsWriting header s items made (is.more ++ h) phase)
+            (take_all n items past) is.writing,
+      );
     }
 
     module _ (known : All (λ item. IsLaneOf header item.lane × IsPageAct header.layout item.lane item.act) items)

@@ -1,5 +1,5 @@
 -- A phase that is recorded, or in which the writing stops.
-use Rattle.std.proofs.Common.{◌≡◌, ◌⊎◌, ℕ, ◌≤◌, List, [], ◌∷◌, ◌++◌, Option, ap, append-nil, append_assoc, inl, inr}
+use Rattle.std.proofs.Common.{◌≡◌, ◌⊎◌, ℕ, ◌≤◌, List, [], ◌∷◌, ◌++◌, Option, ap, append_assoc, inl, inr}
 use Rattle.std.proofs.Common.{length, map, subst, sym, ◌∙◌}
 use Rattle.std.specs.Prelude.{Err, Ok, Some}
 use Rattle.vms_core.specs.Pages.{History, state_after}
@@ -50,8 +50,12 @@ module _ (header : Header) (segments : List Segment) (hs : List History) (start 
       }
       by (inr (h, rest, part, text)) = record {
         unwritten = rest;
-        due = inr (h, part, text-after (history_lines hs) written writer.waiting.items (phase_lines h) made.moved rest
-            is.lines text);
+        due = inr (
+          h,
+          part,
+          text-after (history_lines hs) written writer.waiting.items (phase_lines h) made.moved rest
+              is.lines text,
+        );
       }
 
   -- the phase is recorded
@@ -67,13 +71,17 @@ module _ (header : Header) (segments : List Segment) (hs : List History) (start 
       record {
         moved = made.moved;
         appends = made.appends;
-        outcome = (h, made.outcome.1, record {
-          recorded = recorded h made.outcome.1;
-          pages = pages ∙ ap Some made.outcome.3;
-          lines = ap (λ (bytes : List ℕ). (written ++ made.moved) ++ bytes) waits
-              ∙ text-after (history_lines hs) written writer.waiting.items (phase_lines h) made.moved waiting'
-              is.lines made.outcome.2
-              ∙ sym (lines h);
-          few = subst (λ (bytes : List ℕ). length bytes ≤ most_waiting) (sym waits) few;
-        });
+        outcome = (
+          h,
+          made.outcome.1,
+          record {
+            recorded = recorded h made.outcome.1;
+            pages = pages ∙ ap Some made.outcome.3;
+            lines = ap (λ (bytes : List ℕ). (written ++ made.moved) ++ bytes) waits
+                ∙ text-after (history_lines hs) written writer.waiting.items (phase_lines h) made.moved waiting'
+                is.lines made.outcome.2
+                ∙ sym (lines h);
+            few = subst (λ (bytes : List ℕ). length bytes ≤ most_waiting) (sym waits) few;
+          },
+        );
       }

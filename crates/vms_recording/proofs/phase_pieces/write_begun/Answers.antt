@@ -1,8 +1,8 @@
 -- A phase whose lines aren't all made and written, one that doesn't end, and one that does.
-use Rattle.std.proofs.Common.{◌≡◌, ◌++◌, ◌∙◌}
+use Rattle.std.proofs.Common.{◌++◌, ◌∙◌}
 use Rattle.std.proofs.lemmas.Result.{err_from_is_err_and}
 use Rattle.vms_recording.proofs.CountedFaults.{faults-after}
-use Rattle.vms_recording.proofs.MadePhases.{WritesRest-stopped, WritesRest-unwritten, WritesRest-whole, writing-whole}
+use Rattle.vms_recording.proofs.MadePhases.{WritesRest-stopped, WritesRest-unwritten, WritesRest-whole}
 use Rattle.vms_recording.proofs.phase_pieces.write_begun.Goals as goal
 
 pub returns-in_err-write_lines-clause-writes : goal.returns-in_err-write_lines-clause-writes

@@ -1,10 +1,10 @@
 -- A line that isn't made, one that isn't written, and those that are.
-use Rattle.std.proofs.Common.{◌≡◌, ℕ, ◌+◌, List, ◌++◌, arith, refl, subst, sym, take, ◌∙◌}
+use Rattle.std.proofs.Common.{◌+◌, ◌++◌, arith, refl, subst, sym, take, ◌∙◌}
 use Rattle.std.proofs.lemmas.Result.{err_from_is_err_and}
 use Rattle.vms_walks.specs.Walks.{IsPageAct}
 use Rattle.vms_world.specs.Common.{IsLaneOf, Item}
 use Rattle.vms_recording.proofs.CountedFaults.{faults-after}
-use Rattle.vms_recording.proofs.OpenPhases.{IsOpen, IsOpen-first, IsOpen-line, IsOpen-moved, WritesLines-stopped}
+use Rattle.vms_recording.proofs.OpenPhases.{IsOpen-first, IsOpen-line, IsOpen-moved, WritesLines-stopped}
 use Rattle.vms_recording.proofs.OpenPhases.{WritesLines-whole, among}
 use Rattle.vms_recording.proofs.phase_pieces.write_lines.Goals as goal
 
@@ -70,7 +70,7 @@ returns-in_err-write_above-clause-writes g c s h writing =
     (g.K.Sink.written c.write_above.new.out)
     (IsOpen-moved header s items h waiting held (n + 1) c.write_line.new.self c.write_line.new.out.items
     (g.K.Sink.written c.loop-item.out) made (g.K.Sink.written c.write_above.new.out) writes.moved writes.rest
-    writes.parts writes.appends) _ _ p.0)
+    writes.parts writes.appends writes.rest refl) _ _ p.0)
 
 pub returns-in_err-write_above-clause-counts : goal.returns-in_err-write_above-clause-counts
 returns-in_err-write_above-clause-counts g c =
@@ -96,11 +96,9 @@ loop-item-preserved g c = record {
       (g.K.Sink.written c.loop-item.out) opened c.requires.items c.item-item.result c.item-item.result
       c.loop-item-test.true c.item-item.is on.0 c.write_line.new.self on.1 c.write_line.new.out.items on.2 in
       let writes = c.in_ok-write_above.ensures.writes in
-      subst (λ (bytes : List ℕ). IsOpen header s items h waiting held (n + 1) c.write_line.new.self bytes
-      (g.K.Sink.written c.write_above.new.out)) (sym writes.kept)
-      (IsOpen-moved header s items h waiting held (n + 1) c.write_line.new.self c.write_line.new.out.items
+      IsOpen-moved header s items h waiting held (n + 1) c.write_line.new.self c.write_line.new.out.items
       (g.K.Sink.written c.loop-item.out) made (g.K.Sink.written c.write_above.new.out) writes.moved writes.rest
-      writes.parts writes.appends);
+      writes.parts writes.appends c.write_above.new.waiting.items writes.kept;
   none_fails = c.in_ok-write_above.ensures.counts ∙ c.loop-item.invariant.none_fails;
 }
 

@@ -1,5 +1,4 @@
 -- A phase that doesn't begin, and the rest of one that has begun.
-use Rattle.std.proofs.Common.{◌≡◌}
 use Rattle.std.proofs.lemmas.Result.{err_from_is_err_and}
 use Rattle.vms_recording.proofs.MadePhases.{WritesPhase-begun, WritesPhase-unbegun}
 use Rattle.vms_recording.proofs.phase_pieces.write_pieces.Goals as goal

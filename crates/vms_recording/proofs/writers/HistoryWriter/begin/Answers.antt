@@ -14,7 +14,7 @@ returns c =
         recorded = subst (λ (s : State). HasRecorded header [] [] first_start s) (sym made.2)
             (c.recorded_histories_go_on.ensures.first header made.0 c.requires made.1);
         pages = refl;
-        lines = c.new.ensures;
-        few = subst (λ (bytes : List ℕ). length bytes ≤ most_waiting) (sym c.new.ensures) (omega arith);
+        lines = c.new.ensures.items;
+        few = subst (λ (bytes : List ℕ). length bytes ≤ most_waiting) (sym c.new.ensures.items) (omega arith);
       },
     )

@@ -1,6 +1,5 @@
 -- The page counters are those that the boundary line makes.
-use Rattle.std.proofs.Common.{◌≡◌, refl, subst, sym}
-use Rattle.std.specs.Prelude.{Some}
+use Rattle.std.proofs.Common.{refl, subst, sym}
 use Rattle.vms_walks.specs.Rules.{ByFormula}
 use Rattle.vms_world.specs.Common.{State, normal_threshold_of}
 use Rattle.vms_written.specs.Common.{CrossesPages}
