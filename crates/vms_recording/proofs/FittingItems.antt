@@ -1,6 +1,6 @@
 -- Each of the lines that fit is of a lane, and acts on the page counters of the layout.
 use Rattle.std.proofs.Common.{◌≡◌, ℕ, zero, suc, ◌<◌, Bool, true, false, cond, List, [], ◌∷◌, arith, filter, get_or}
-use Rattle.std.proofs.Common.{length, map, subst, sym}
+use Rattle.std.proofs.Common.{length, map}
 use Rattle.std.proofs.lemmas.List.Elements.{All-head, All-tail}
 use Rattle.std.specs.Prelude.{All}
 use Rattle.vms_file_order.proofs.Common.{is_lane-self}
@@ -30,16 +30,11 @@ act-at P lane (item ∷ items) (suc n) d below same all =
     rest true here = All-tail P item.act (map (λ (i : Item). i.act) of_lane) here
     rest false here = here
 
-module _ (header : Header) (start : Start) (items : List Item) (fits : Fits header start items) where
-  pub lanes-known : All (λ item. IsLaneOf header item.lane) items
-  lanes-known n d below = (fits.known n d below).0
-
-  module _ (n : ℕ) (item d : Item) (below : n < length items) (item-is : item ≡ get_or items n d) where
-    pub lane-known : IsLaneOf header item.lane
-    lane-known = subst (λ (i : Item). IsLaneOf header i.lane) (sym item-is) (lanes-known n d below)
-
-    pub act-known : ((lane : Lane) → All (λ act. IsPageAct header.layout lane act) (acts_of lane items))
-        → IsPageAct header.layout item.lane item.act
-    act-known acts = subst (λ (i : Item). IsPageAct header.layout i.lane i.act) (sym item-is)
-        (act-at (λ act. IsPageAct header.layout (get_or items n d).lane act) (get_or items n d).lane items n d below
-        (is_lane-self (get_or items n d).lane) (acts (get_or items n d).lane))
+pub acts-known : (header : Header) (start : Start) (items : List Item) → Fits header start items
+    → ((lane : Lane) → All (λ act. IsPageAct header.layout lane act) (acts_of lane items))
+    → All (λ item. IsLaneOf header item.lane × IsPageAct header.layout item.lane item.act) items
+acts-known header start items fits acts n d below = (
+  (fits.known n d below).0,
+  act-at (λ act. IsPageAct header.layout (get_or items n d).lane act) (get_or items n d).lane items n d below
+      (is_lane-self (get_or items n d).lane) (acts (get_or items n d).lane),
+)

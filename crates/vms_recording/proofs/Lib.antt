@@ -1,4 +1,7 @@
+pub mod CountedFaults
 pub mod EventLines
-pub mod PhaseTexts
 pub mod OpenPhases
 pub mod FittingItems
+pub mod MadePhases
+pub mod RecordedPhases
+pub mod FlushedBytes

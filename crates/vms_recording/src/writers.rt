@@ -1,10 +1,10 @@
-use crate::waiting_bytes::{write_above, write_waiting};
+use crate::phase_pieces::write_pieces;
+use crate::waiting_bytes::write_waiting;
 use std::alloc::Global;
 use vms_base::{Header, Memory};
 use vms_core::State;
 use vms_io::Sink;
 use vms_page_crossings::{cross, first_pages};
-use vms_phase_lines::PhaseWriter;
 use vms_recorded::recorded_histories_go_on;
 use vms_stream::Status;
 use vms_text::{Boundary, Item};
@@ -66,19 +66,14 @@ impl HistoryWriter {
         ensures cause { IfErr result (λ status. (status ≡ Status.Memory) ⊎ (status ≡ Status.WriteFault)) }
         ensures counts { CountsWrites K.written K.faults result out.old out.new }
     {
-        recorded_histories_go_on();
         fitting_lines_are_page_acts();
-        let Some(pages) = self.pages.take() else {
+        let Some(base) = self.pages.take() else {
             unreachable!();
         };
-        let mut phase = PhaseWriter::begin(&mut self.waiting, self.alloc, header, pages, items)?;
-        for item in items {
-            phase.write_line(&mut self.waiting, header, item)?;
-            write_above(&mut self.waiting, out)?;
-        }
-        let pages = phase.end(&mut self.waiting, self.alloc)?;
+        let pages = write_pieces(&mut self.waiting, self.alloc, header, base, items, out)?;
         self.pages = Some(pages);
-        write_above(&mut self.waiting, out)
+        recorded_histories_go_on();
+        Ok(())
     }
 
     /// Records a boundary line that counts. It has no line in a written history.
