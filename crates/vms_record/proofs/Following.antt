@@ -1,16 +1,21 @@
 -- What the command answers, from what the copy of the trace answered and what followed it.
-use Rattle.std.proofs.Common.{◌≡◌, ◌≢◌, ◌⊎◌, ◌∙◌, ℕ, List, [], ◌++◌, Option, Some, append-nil, inl, inr, refl, sym, ap, subst}
+use Rattle.std.proofs.Common.{◌≡◌, ◌≢◌, ◌⊎◌, ◌∙◌, ℕ, List, [], ◌++◌, Option, Some, append-nil, inl, inr, refl, sym, ap}
+use Rattle.std.proofs.Common.{subst}
 use Rattle.std.proofs.lemmas.Option.{same_Some}
 use Rattle.std.specs.Io.KnownBytes.{Appends, IsAtEnd}
 use Rattle.std.proofs.KnownBytes.{Appends-nil, Appends-trans}
+use Rattle.std.specs.Prelude.{Err, Ok, Result}
 use Rattle.vms_command.specs.Common.{following, shown_given}
-use Rattle.vms_stream.specs.Common.{AnswersPhased, FaultsOfSink, FaultsOfSource, SaysPhased, TakesAndWrites, waiting}
+use Rattle.vms_stream.specs.Common.{AnswersPhased, CountsWrites, FaultsOfSink, FaultsOfSource, SaysPhased}
+use Rattle.vms_stream.specs.Common.{TakesAndWrites, waiting}
 use Rattle.vms_stream.specs.declared.statuses.Status.{Status}
 use Rattle.vms_stream.specs.declared.statuses.Status.TheVariants.{Done, Memory, ReadFault, Refused, WriteFault}
 use Rattle.vms_stream.specs.declared.statuses.Status.TheVariants as statuses
-use Rattle.vms_trace_parts.specs.Common.{CopiesTexts, TracePart, copying, shown_by_copy}
+use Rattle.vms_trace_parts.specs.Common.{ArePartsOf, CopiesTexts, SaysCopied, TracePart, copying, shown_by_copy}
+use Rattle.vms_trace_parts.proofs.Common.{header_in-begin}
+use Rattle.vms_world.specs.Common.{lines_of}
 use Rattle.vms_record.specs.Answers.{FollowsCopy, SaysRecord}
-use Rattle.vms_record.specs.Histories.{AfterCopy, GoesOnWith, RecordsAfter}
+use Rattle.vms_record.specs.Histories.{AfterCopy, AreParts, GoesOnWith, MayFollow, RecordsAfter}
 
 -- no read failed where the copy came to the end of the trace
 read-on : {S : Type 0} (left : S → Option (List ℕ)) (faults : S → ℕ) (src src' : S) (status : Status)
@@ -25,7 +30,7 @@ goes_on-reads parts ended status history none (inr (inl is, begins)) = λ read. 
 goes_on-reads parts ended status history none (inr (inr is, begins)) = λ read. let clash : WriteFault ≡ ReadFault = sym is ∙ read in absurd cc
 
 -- a fault of the sink after writes that didn't fail
-write-on : {K : Type 0} (held : K → Option (List ℕ)) (faults : K → ℕ) (out mid out' : K) (status : Status)
+pub write-on : {K : Type 0} (held : K → Option (List ℕ)) (faults : K → ℕ) (out mid out' : K) (status : Status)
     → faults mid ≡ faults out → FaultsOfSink held faults status mid out' → FaultsOfSink held faults status out out'
 write-on held faults out mid out' WriteFault same last = record {
   failing = last.failing;
@@ -34,6 +39,34 @@ write-on held faults out mid out' WriteFault same last = record {
   none_after = last.none_after;
 }
 write-on held faults out mid out' _ same counts = counts ∙ same
+
+pub counts-on : {A K : Type 0} (held : K → Option (List ℕ)) (faults : K → ℕ) (out mid out' : K)
+    (result : Result A Status) → faults mid ≡ faults out → CountsWrites held faults result mid out'
+    → CountsWrites held faults result out out'
+counts-on held faults out mid out' (Ok value) same counts = counts ∙ same
+counts-on held faults out mid out' (Err status) same counts = write-on held faults out mid out' status same counts
+
+-- no write failed, and the copy came to the end of the trace
+pub unfailed-writes : {K : Type 0} (held : K → Option (List ℕ)) (faults : K → ℕ) (ended : Status) (out out' : K)
+    → ended ≢ WriteFault → faults out' ≡ faults out → FaultsOfSink held faults ended out out'
+unfailed-writes held faults WriteFault out out' none same = absurd (none refl)
+unfailed-writes held faults _ out out' none same = same
+
+-- the parts of a trace that was copied to its end
+are-parts : (lines : List (List ℕ)) (parts : List TracePart) (refused : ℕ) → ArePartsOf lines parts refused
+    → AreParts parts
+are-parts lines parts refused are = record {
+  header = are.header;
+  header_is = header_in-begin are.header parts are.begin;
+  valid = are.valid;
+  stand = are.stand;
+}
+
+may-follow : (parts : List TracePart) (ended : Status) (taken written : List ℕ) (at_end : Type 0)
+    → SaysCopied parts ended taken written at_end → MayFollow ended parts
+may-follow parts Done taken written at_end says = are-parts (lines_of taken) parts says.refusals says.parts_are
+may-follow parts Refused taken written at_end says = are-parts (lines_of taken) parts says.refusals says.parts_are
+may-follow parts _ taken written at_end says = tt
 
 module _ {S K : Type 0} (left : S → Option (List ℕ)) (read_faults : S → ℕ) (held : K → Option (List ℕ))
     (write_faults : K → ℕ) (src src' : S) (out : K) (parts : List TracePart) (copies : CopiesTexts) where
@@ -51,6 +84,11 @@ module _ {S K : Type 0} (left : S → Option (List ℕ)) (read_faults : S → �
         subst (λ (outcomes : List TracePart). SaysPhased (waiting (following copying)) (shown_given shown_by_copy) outcomes
         ended copied.answers.taken copied.answers.written (IsAtEnd (left src')))
         (sym (same_Some parts copied.outcomes copied.grows)) copied.answers.answer
+
+    pub MayFollow-copied : MayFollow ended parts
+    MayFollow-copied =
+        may-follow parts ended copied.answers.taken copied.answers.written (IsAtEnd (left src'))
+        (copies parts ended copied.answers.taken copied.answers.written (left src') says)
 
     -- what followed
     joined : (out' : K) (status : Status) (history : List ℕ) → Appends (held mid) (held out') history

@@ -1,3 +1,4 @@
 mod Following
 mod PartSegments
+mod PartSteps
 mod RecordedTexts

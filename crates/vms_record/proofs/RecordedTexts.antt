@@ -1,6 +1,7 @@
 -- What was recorded of a trace is its recorded text.
 use Rattle.std.proofs.Common.{◌≡◌, ◌⊎◌, ◌∙◌, ℕ, List, ◌++◌, Option, Some, append_assoc, ap, inl, inr, subst, sym}
 use Rattle.std.proofs.lemmas.Option.{same_Some}
+use Rattle.std.specs.Io.KnownBytes.{IsAtEnd}
 use Rattle.vms_core.specs.Pages.{History}
 use Rattle.vms_record.specs.Answers.{FollowsCopy, SaysRecord}
 use Rattle.vms_record.specs.Histories.{GoesOnWith, IsHistoryOf}
@@ -10,10 +11,9 @@ use Rattle.vms_recorded_texts.specs.RecordedTexts.{IsRecordingOf, recorded_text}
 use Rattle.vms_stream.specs.declared.statuses.Status.{Status}
 use Rattle.vms_stream.specs.declared.statuses.Status.TheVariants.{Done, Refused}
 use Rattle.vms_stream.specs.declared.statuses.Status.TheVariants as statuses
-use Rattle.vms_text.specs.Common.{lines_of}
+use Rattle.vms_world.specs.Common.{lines_of, Header, Segment}
 use Rattle.vms_trace_parts.specs.Common.{ArePartsOf, CopiesAll, SaysCopied, TracePart, copied_text}
 use Rattle.vms_trace_parts.proofs.Common.{header_in-begin}
-use Rattle.vms_world.specs.Common.{Header, Segment}
 use Rattle.vms_written_lines.specs.Spelling.{history_line}
 
 -- the copy came to the end of the trace, and the history was written
@@ -54,8 +54,9 @@ module _ (parts : List TracePart) (taken copied history : List ℕ) (at_end : Ty
           recorded = subst (λ (segments : List Segment). IsRecordedHistory are.header segments wrote.hs) are.segments
               (subst (λ (h : Header). IsRecordedHistory h _ wrote.hs) header wrote.recorded);
         },
-        ap (λ (text : List ℕ). copied ++ text) wrote.text_is
-            ∙ ap (λ (text : List ℕ). text ++ history_line ++ history_lines wrote.hs) copy,
+        subst (λ (text : List ℕ). copied ++ text ≡ recorded_text (lines_of taken) wrote.hs) (sym wrote.text_is)
+            (ap (λ (text : List ℕ). text ++ (history_line ++ history_lines wrote.hs)) copy
+            ∙ sym (append_assoc (copied_text (lines_of taken)) history_line (history_lines wrote.hs))),
       )
 
   recorded-copy : (status : Status) → IsRecorded status → SaysCopied parts status taken copied at_end
@@ -65,8 +66,8 @@ module _ (parts : List TracePart) (taken copied history : List ℕ) (at_end : Ty
   recorded-copy _ whole says wrote = absurd whole
 
 pub RecordsItsText-is : RecordsItsText
-RecordsItsText-is status taken written at_end whole says =
+RecordsItsText-is status taken written left whole says =
     let followed = follows-whole says.parts says.history says.ended status whole says.follows in
-    let copies = subst (λ (s : Status). SaysCopied says.parts s taken says.copied at_end) followed.0 says.by_text in
-    let recorded = recorded-copy says.parts taken says.copied says.history at_end status whole copies followed.1 in
+    let copies = subst (λ (s : Status). SaysCopied says.parts s taken says.copied (IsAtEnd left)) followed.0 says.by_text in
+    let recorded = recorded-copy says.parts taken says.copied says.history (IsAtEnd left) status whole copies followed.1 in
     (recorded.0, recorded.1, says.written_is ∙ recorded.2)

@@ -1,16 +1,15 @@
 -- The history that follows the copy of a trace, and what was written of it where the writing stopped.
-use Rattle.std.specs.Prelude.{◌≡◌, ◌⊎◌, ℕ, List, [], ◌∷◌, ◌++◌, Option, Some, Result, MatchResult, Unit}
+use Rattle.std.specs.Prelude.{◌≡◌, ◌⊎◌, ℕ, List, [], ◌∷◌, ◌++◌, Option, Some, Result, MatchResult}
 use Rattle.std.specs.Io.KnownBytes.{Appends}
 use Rattle.vms_core.specs.Pages.{History}
 use Rattle.vms_recorded.specs.Histories.{HasRecorded, IsRecordedHistory, history_lines}
 use Rattle.vms_recording.specs.Common.{IsDueInPhase, IsRecording}
 use Rattle.vms_recording.specs.declared.writers.HistoryWriter.{HistoryWriter}
-use Rattle.vms_script.specs.Common.{AreSegments}
+use Rattle.vms_world.specs.Common.{AreSegments, Header, IsHeader, Phase, Segment, Start, State, first_start}
 use Rattle.vms_stream.specs.Common.{FaultsOfSink}
 use Rattle.vms_stream.specs.declared.statuses.Status.{Status}
 use Rattle.vms_stream.specs.declared.statuses.Status.TheVariants.{Done, Memory, Refused, WriteFault}
 use Rattle.vms_trace_parts.specs.Common.{TracePart, header_in, segments_of_parts}
-use Rattle.vms_world.specs.Common.{Header, IsHeader, Phase, Segment, Start, State, first_start}
 use Rattle.vms_written_lines.specs.Spelling.{history_line}
 
 -- what may have been made of a history after these page counters: the lines of the histories so far, or with those of a
@@ -49,6 +48,14 @@ abbrev pub MayRecordPart : Header → List Segment → HistoryWriter → Type 0
 MayRecordPart header mine writer = (segments : List Segment) × (hs : List History) × (start : Start) × (s : State)
     × (written : List ℕ) × (after : List Segment) × IsRecording header segments hs start s written writer
     × AreSegments header start (mine ++ after)
+
+-- a writer recorded these segments, after which others may stand
+pub record HasPassed (header : Header) (segments : List Segment) (hs : List History) (written : List ℕ)
+    (after : List Segment) (writer : HistoryWriter) : Type 0 where
+  pub start : Start
+  pub s : State
+  pub recording : IsRecording header segments hs start s written writer
+  pub stand : AreSegments header start after
 
 -- a part's segments were recorded after these, or the writing stopped within them
 pub record RecordsPart (header : Header) (segments mine after : List Segment) (written : List ℕ)

@@ -9,7 +9,7 @@ use Rattle.vms_recorded_texts.specs.RecordedTexts.{IsAnswer, IsRecordingOf, reco
 use Rattle.vms_stream.specs.Common.{most_bytes}
 use Rattle.vms_stream.specs.declared.statuses.Status.{Status}
 use Rattle.vms_stream.specs.declared.statuses.Status.TheVariants.{Done, Refused}
-use Rattle.vms_text.specs.Common.{lines_of}
+use Rattle.vms_world.specs.Common.{lines_of}
 
 -- with these statuses a whole trace was recorded
 abbrev pub IsRecorded : Status → Type 0
@@ -19,13 +19,13 @@ IsRecorded _ = ⊥
 
 -- then the recorded text of the input was written
 abbrev pub RecordsItsText : Type 0
-RecordsItsText = (status : Status) (taken written : List ℕ) (at_end : Type 0) → IsRecorded status
-    → SaysRecord status taken written at_end
+RecordsItsText = (status : Status) (taken written : List ℕ) (left : Option (List ℕ)) → IsRecorded status
+    → SaysRecord status taken written (IsAtEnd left)
     → (hs : List History) × IsRecordingOf (lines_of taken) hs × (written ≡ recorded_text (lines_of taken) hs)
 
 -- and `certify` may answer to it that it is certified, and finds no line at fault
 abbrev pub RecordsAreCertified : Type 0
-RecordsAreCertified = (status verdict : Status) (taken written output : List ℕ) (at_end : Type 0)
-    (left : Option (List ℕ)) → IsRecorded status → SaysRecord status taken written at_end
-    → length written ≤ most_bytes → SaysCertify kernel_rules verdict written output (IsAtEnd left)
+RecordsAreCertified = (status verdict : Status) (taken written output : List ℕ) (left after : Option (List ℕ))
+    → IsRecorded status → SaysRecord status taken written (IsAtEnd left) → length written ≤ most_bytes
+    → SaysCertify kernel_rules verdict written output (IsAtEnd after)
     → (hs : List History) × IsRecordingOf (lines_of taken) hs × IsAnswer hs verdict output

@@ -18,8 +18,9 @@ pub fn tool_record<S: Source, K: Sink>(alloc: Global, src: &mut S, out: &mut K) 
     record_after(ended, alloc, &parts, out)
 }
 
-ghost use Rattle.vms_trace_parts.specs.Parts.{parts_of};
-ghost use Rattle.vms_record.specs.Histories.{AfterCopy, MayFollow};
+ghost use Rattle.std.specs.Prelude.{◌≢◌};
+ghost use Rattle.vms_trace_parts.specs.Common.{parts_of};
+ghost use Rattle.vms_record.specs.Histories.{AfterCopy, AreParts, MayFollow, RecordsAfter};
 
 /// Writes the history of a trace whose copy ended so. Where its end wasn't reached nothing follows.
 fn record_after<K: Sink>(ended: Status, alloc: Global, parts: &TraceParts, out: &mut K) -> Status
@@ -27,10 +28,20 @@ fn record_after<K: Sink>(ended: Status, alloc: Global, parts: &TraceParts, out: 
     ensures { AfterCopy K.written K.faults ended (parts_of parts.now) out.old out.new result }
 {
     match ended {
-        Status::Done | Status::Refused => match write_history(alloc, parts, out) {
-            Ok(()) => ended,
-            Err(status) => status,
-        },
+        Status::Done => record_parts(Status::Done, alloc, parts, out),
+        Status::Refused => record_parts(Status::Refused, alloc, parts, out),
         _ => ended,
+    }
+}
+
+/// Writes the history of a whole trace, whose copy ended so.
+fn record_parts<K: Sink>(ended: Status, alloc: Global, parts: &TraceParts, out: &mut K) -> Status
+    requires parts { AreParts (parts_of parts.now) }
+    requires ended { ended ≢ Status.WriteFault }
+    ensures { RecordsAfter K.written K.faults ended (parts_of parts.now) out.old out.new result }
+{
+    match write_history(alloc, parts, out) {
+        Ok(()) => ended,
+        Err(status) => status,
     }
 }

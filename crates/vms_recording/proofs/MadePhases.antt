@@ -8,8 +8,7 @@ use Rattle.vms_phase_lines.specs.declared.phases.PhaseWriter.{PhaseWriter}
 use Rattle.vms_recorded.specs.Histories.{phase_lines}
 use Rattle.vms_stream.specs.declared.statuses.Status.{Status}
 use Rattle.vms_world.specs.Common.{Header, Item, State, facts_of, settled}
-use Rattle.vms_recording.specs.PhaseParts.{WritesLines, WritesPhase, WritesRest}
-use Rattle.vms_recording.specs.Written.{WritesFront}
+use Rattle.vms_recording.specs.Common.{WritesLines, WritesPhase, WritesRest, WritesFront}
 use Rattle.vms_recording.proofs.EventLines.{events-more, front-moved, phase_lines-more, text-more}
 
 module _ (header : Header) (base : State) (items : List Item) (h : History) (waiting last : List ℕ)

@@ -1,6 +1,6 @@
 -- A phase whose first lines are made.
-use Rattle.std.proofs.Common.{◌≡◌, ℕ, ◌+◌, ◌<◌, ◌≤◌, true, List, [], ◌∷◌, ◌++◌, Option, add-one, ap, append-nil, append_assoc}
-use Rattle.std.proofs.Common.{drop, get_or, length, refl, subst, sym, take, take-append-drop, ◌∙◌}
+use Rattle.std.proofs.Common.{◌≡◌, ℕ, ◌+◌, ◌<◌, ◌≤◌, true, List, [], ◌∷◌, ◌++◌, Option, add-one, ap, append-nil}
+use Rattle.std.proofs.Common.{append_assoc, drop, get_or, length, refl, subst, sym, take, take-append-drop, ◌∙◌}
 use Rattle.std.proofs.KnownBytes.{Appends-nil, Appends-trans}
 use Rattle.std.proofs.Math.Seq.{take-suc}
 use Rattle.std.proofs.lemmas.List.{take_all}
@@ -13,7 +13,7 @@ use Rattle.vms_phase_lines.specs.declared.phases.PhaseWriter.{PhaseWriter}
 use Rattle.vms_stream.specs.declared.statuses.Status.{Status}
 use Rattle.vms_walks.specs.Walks.{IsPageAct}
 use Rattle.vms_world.specs.Common.{Header, IsLaneOf, Item, State, is_among, lanes_of}
-use Rattle.vms_recording.specs.PhaseParts.{BeginsPhase, WritesLines}
+use Rattle.vms_recording.specs.Common.{BeginsPhase, WritesLines}
 use Rattle.vms_recording.proofs.EventLines.{events-more, front-moved, text-more}
 
 module _ (header : Header) (s : State) (items : List Item) (h : History) (waiting : List ℕ) (held : Option (List ℕ)) where

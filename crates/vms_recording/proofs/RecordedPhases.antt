@@ -1,6 +1,6 @@
 -- A phase that is recorded, or in which the writing stops.
-use Rattle.std.proofs.Common.{◌≡◌, ◌⊎◌, ℕ, ◌≤◌, List, [], ◌∷◌, ◌++◌, Option, ap, append_assoc, inl, inr}
-use Rattle.std.proofs.Common.{length, map, subst, sym, ◌∙◌}
+use Rattle.std.proofs.Common.{◌≡◌, ◌⊎◌, ℕ, ◌≤◌, List, [], ◌∷◌, ◌++◌, Option, ap, append_assoc, inl, inr, length, map}
+use Rattle.std.proofs.Common.{subst, sym, ◌∙◌}
 use Rattle.std.specs.Prelude.{Err, Ok, Some}
 use Rattle.vms_core.specs.Pages.{History, state_after}
 use Rattle.vms_phase_lines.specs.Common.{IsPhaseInOrder}
@@ -8,7 +8,7 @@ use Rattle.vms_recorded.specs.Histories.{HasRecorded, history_lines, phase_lines
 use Rattle.vms_stream.specs.declared.statuses.Status.{Status}
 use Rattle.vms_world.specs.Common.{Header, Item, Phase, Segment, Start, State, facts_of, line_of, settled, start_at_end}
 use Rattle.vms_recording.specs.Common.{IsPartOfPhase, IsRecording, RecordsPhase, StopsInPhase, most_waiting}
-use Rattle.vms_recording.specs.PhaseParts.{WritesPhase}
+use Rattle.vms_recording.specs.Common.{WritesPhase}
 use Rattle.vms_recording.specs.declared.writers.HistoryWriter.{HistoryWriter}
 
 -- a text that goes on after what had been written before

@@ -5,8 +5,7 @@ use Rattle.vms_core.specs.Pages.{History, state_after}
 use Rattle.vms_phase_lines.specs.Common.{IsPhaseInOrder}
 use Rattle.vms_recorded.specs.Histories.{HasRecorded, history_lines, phase_lines}
 use Rattle.vms_stream.specs.declared.statuses.Status.{Status}
-use Rattle.vms_world.specs.Common.{Header, Item, Phase, Segment, Start, State, facts_of, line_of, settled}
-use Rattle.vms_world.specs.Common.{start_at_end}
+use Rattle.vms_world.specs.Common.{Header, Item, Phase, Segment, Start, State, facts_of, line_of, settled, start_at_end}
 use Rattle.vms_recording.specs.declared.writers.HistoryWriter.{HistoryWriter}
 use Rattle.vms_recording.specs.PhaseParts.{IsPartOfPhase}
 use Rattle.vms_recording.specs.Written.{most_waiting}

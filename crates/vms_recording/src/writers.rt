@@ -29,8 +29,7 @@ impl HistoryWriter {
     ghost use Rattle.vms_stream.specs.Common.{CountsWrites};
     ghost use Rattle.vms_text.specs.declared.acts.Line.TheVariants.{Boundary as BoundaryLine};
     ghost use Rattle.vms_world.specs.Common.{Between, Fits, Header as HeaderOf, IsHeader, IsLineOf, Segment, Start};
-    ghost use Rattle.vms_world.specs.Common.{State as StateOf};
-    ghost use Rattle.vms_world.specs.Common.{allowed_from, first_start, start_past};
+    ghost use Rattle.vms_world.specs.Common.{State as StateOf, allowed_from, first_start, start_past};
     ghost use Rattle.vms_recording.specs.Recording.{Flushes, IsRecording, RecordsPhase};
 
     /// Before the first segment, with the page counters that a run begins with.

@@ -212,7 +212,9 @@ static ROWS: [Row<'static>; 14] = [
             ..SOUND
         },
         status: Status::WriteFault,
-        output: &["usage: check | replay | run | gen SEED CPUS LINES | groups | record | certify\n"],
+        output: &[
+            "usage: check | replay | run | gen SEED CPUS LINES | groups | record | certify\n",
+        ],
         least: 0,
         most: 0,
     },
@@ -225,7 +227,9 @@ static ROWS: [Row<'static>; 14] = [
             ..SOUND
         },
         status: Status::Words,
-        output: &["usage: check | replay | run | gen SEED CPUS LINES | groups | record | certify\n"],
+        output: &[
+            "usage: check | replay | run | gen SEED CPUS LINES | groups | record | certify\n",
+        ],
         least: 59,
         most: 59,
     },

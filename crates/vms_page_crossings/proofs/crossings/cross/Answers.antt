@@ -3,7 +3,7 @@ use Rattle.std.proofs.Common.{List, refl, sym, ap, subst}
 use Rattle.vms_world.specs.Common.{CpuState}
 use Rattle.vms_text.specs.declared.acts.Boundary.{Boundary as BoundaryOf}
 use Rattle.vms_written.specs.Common.{CrossesPages}
-use Rattle.vms_page_crossings.specs.Crossings.{MayCrossPages}
+use Rattle.vms_page_crossings.specs.Common.{MayCrossPages}
 use Rattle.vms_page_crossings.proofs.KernelAnswers.{by_kernel}
 use Rattle.vms_page_crossings.proofs.PageRooms.{IsSmallState-page, within-page}
 use Rattle.vms_page_crossings.proofs.crossings.cross.Goals as goal
