@@ -8,9 +8,9 @@ use Rattle.vms_group_lines.specs.Common.{judged_group}
 use Rattle.vms_group_phase.specs.Common.{has_some}
 use Rattle.vms_group_phase.specs.declared.items.GroupItem.{GroupItem}
 use Rattle.vms_groups.specs.Common.{PastGroupPhase, group_world_after, groups_texts, with_lines}
-use Rattle.vms_groups.specs.GroupTexts.{GroupsKept, GroupsState, ends_judged, judged_text, next_kept}
+use Rattle.vms_groups.specs.GroupTexts.{GroupsKept, GroupsState, ends_judged, judged_text, next_kept, report_lines}
+use Rattle.vms_groups.specs.GroupTexts.{text_after}
 use Rattle.vms_groups.specs.GroupTexts.GroupsState.{Body, Heading}
-use Rattle.vms_groups.specs.GroupTexts.{report_lines, text_after}
 use Rattle.vms_stream.specs.Common.{IsAsking}
 use Rattle.vms_wait_laws.specs.Common.{AskInsidePhases}
 
