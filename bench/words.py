@@ -3,7 +3,7 @@
 the same in C.
 
     bench/words.py [-k KIND]... [-t THREADS]... [-d DISTANCE]... [-n CALLS] [-r RUNS] [--volumes] [--functions]
-                   [--cc COMMAND]
+                   [--door] [--cc COMMAND]
 
 The programs are built: the proved ones by `rt run` in their crates, bench/words.c by a C compiler for the processor
 that the proved ones are built for, in two forms: with a row of lines of its own for each CPU (C), as the proved
@@ -21,9 +21,12 @@ crates/vms_pcpu: these three are of crates/vms_bench. The others call crates/vms
 crates/vms_call_bench. What each call does is told at the head of bench/words.c. On the 4 CPUs of snapshots4 one thread
 alone works where CPUs stand 16 apart.
 
+With --door the kinds that bench/door.c has are measured by calls of crates/vozhkell_c too, and for them is printed how
+many nanoseconds more a call takes than in C with rows: at most 5 are wanted. The library is built by `rt lib`.
+
 Needed are Linux, python3 and a C compiler with pthreads. The proved programs may be named in VMS_BENCH and
-VMS_CALL_BENCH; then they aren't built. Times vary with what else the machine does, so the load average is printed
-too.
+VMS_CALL_BENCH, and the library in VOZHKELL_C; then they aren't built. Times vary with what else the machine does, so
+the load average is printed too.
 """
 import argparse
 import itertools
@@ -32,6 +35,7 @@ import statistics
 import subprocess
 import sys
 import tempfile
+from pathlib import Path
 
 TOP = os.path.dirname(os.path.dirname(os.path.abspath(__file__)))
 BENCH = "vms_bench"
@@ -56,6 +60,8 @@ KINDS = {
     "snapshots64": Kind(CALL_BENCH, "tests by `watermark_ok` that take the snapshot on 64 CPUs"),
     "snapshots128": Kind(CALL_BENCH, "tests by `watermark_ok` that take the snapshot on 128 CPUs"),
 }
+# What bench/door.c has.
+DOOR = {"events", "locals", "adds", "folds", "watermarks", "snapshots64"}
 # Loops are aligned, since else the time of a short one goes by where it happens to stand.
 FLAGS = ["-std=c11", "-O3", "-march=x86-64-v2", "-falign-loops=32", "-Wall", "-Wextra", "-Werror", "-pthread"]
 
@@ -97,6 +103,27 @@ def proved_program(kind):
 def c_program(compiler, flags, folder):
     program = os.path.join(folder, "flat" if "-DFLAT" in flags else "words")
     run([*compiler.split(), *flags, "-o", program, os.path.join(TOP, "bench", "words.c")])
+    return program
+
+
+def kit_heap():
+    """The heap of the Rattle kit, which a program in C links beside the library."""
+    told, _ = run(["rt", "doc"])
+    for folder in Path(told.strip()).resolve().parents:
+        if (folder / "c" / "liblibc_c.a").exists():
+            return str(folder / "c" / "liblibc_c.a")
+    raise Fault("the kit's heap isn't where `rt doc` leads")
+
+
+def door_program(compiler, folder):
+    crate = os.path.join(TOP, "crates", "vozhkell_c")
+    library = os.environ.get("VOZHKELL_C")
+    if not library:
+        run(["rt", "lib"], cwd=crate)
+        library = os.path.join(crate, "out", "libvozhkell_c.a")
+    program = os.path.join(folder, "door")
+    run([*compiler.split(), *FLAGS, "-I", crate, "-o", program, os.path.join(TOP, "bench", "door.c"), library,
+         kit_heap()])
     return program
 
 
@@ -143,6 +170,7 @@ def arguments():
                         help="let the C program keep what each CPU has changed so far, as the proved one does")
     parser.add_argument("--functions", action="store_true",
                         help="let the C program call its changes, folds and tests, as the kernel and the proved one do")
+    parser.add_argument("--door", action="store_true", help="measure calls of crates/vozhkell_c too")
     words = parser.parse_args()
     if words.calls < 2:
         parser.error("the times of 2 calls at least can be told from that of one")
@@ -158,9 +186,12 @@ def main():
         try:
             in_c = c_program(words.cc, flags, folder)
             flat = c_program(words.cc, flags + ["-DFLAT"], folder)
+            door = door_program(words.cc, folder) if words.door else None
             print(f"load average {os.getloadavg()[0]:.2f}; {words.calls} calls a thread, {words.runs} runs in turn")
             for kind in words.kind or KINDS:
                 programs = {"proved": proved_program(kind), "C": in_c, "flat C": flat}
+                if door and kind in DOOR:
+                    programs["door"] = door
                 print(f"{kind}: {KINDS[kind].told}")
                 for threads, distance in itertools.product(words.threads or (1, 2, 4),
                                                            words.distance or ("near", "apart")):
@@ -173,7 +204,9 @@ def main():
                     ratios = ", ".join(
                         f"{medians['proved'] / medians[name]:.2f} ({min(times['proved']) / min(times[name]):.2f})"
                         f" to {name}" for name in ("C", "flat C"))
-                    print(f"  {threads} thread{'s' * (threads > 1)} {distance}: {told}, ratio {ratios}", flush=True)
+                    further = f", door {medians['door'] - medians['C']:+.2f} ns to C" if "door" in programs else ""
+                    print(f"  {threads} thread{'s' * (threads > 1)} {distance}: {told}, ratio {ratios}{further}",
+                          flush=True)
         except Fault as fault:
             print(f"bench/words.py: {fault}", file=sys.stderr)
             sys.exit(2)
