@@ -1,12 +1,16 @@
 /* What crates/vms_bench and crates/vms_call_bench do on shared words, in C11 with sequentially consistent atomics:
  * bench/words.py measures all of them.
  *
- *     words pages|events|locals|adds|folds|watermarks|snapshots4|snapshots64|snapshots128 CALLS THREADS
+ *     words pages|events|locals|adds|folds|watermarks|snapshots4|snapshots64|snapshots128 CALLS THREADS near|apart
  *
  * Each of THREADS threads makes CALLS calls on a CPU of its own, and then the plain numbers are written, which are the
- * same whatever the schedule. The CPUs are 0, 16, 32 and 48, so that no two threads have words in one line of the
- * cache but the global ones. There are one zone, one node and 64 CPUs with eight items a place, but for snapshots4 and
- * snapshots128: 4 CPUs, and 128 with sixteen items a place. On 4 CPUs works one thread.
+ * same whatever the schedule. The CPUs are 0, 1, 2 and 3 (near), or 0, 16, 32 and 48 (apart). There are one zone, one
+ * node and 64 CPUs with eight items a place, but for snapshots4 and snapshots128: 4 CPUs, and 128 with sixteen items a
+ * place. On 4 CPUs apart works one thread.
+ *
+ * All that is of a CPU stands in a row of lines of its own, and the shared part and the lock of a percpu counter stand
+ * side by side on a line of their own. Compiled with -DFLAT the words stand one after another by kind: then those of
+ * neighbouring CPUs share lines.
  *
  * pages, adds: a change adds DELTA to a counter of the zone. It loads the threshold of the zone, loads the CPU's word
  * of eight differentials, exchanges that word, and where the differential passed the threshold it adds it to the
@@ -41,6 +45,7 @@
 enum {
     CPUS = 64,
     CPUS_APART = 16,
+    LINE = 8, /* words in a line of the cache */
     MOST_THREADS = 4,
     ITEMS = 8, /* of a place, where there are at most 64 CPUs */
     ZONES = 1,
@@ -78,10 +83,15 @@ struct header {
     struct zone zones[16];
 };
 
-/* Where the words of each kind begin, and how many of a kind each CPU has. */
+/* Where words of a kind begin, and how far on those of the next CPU stand, or those of the next counter. */
+struct grid {
+    size_t start, each;
+};
+
+/* Where the words of each kind stand. */
 struct blocks {
-    size_t systems, groups, thresholds, marks, states, acknowledgements, end;
-    size_t groups_each, places_each, zones_each;
+    size_t systems, marks, end;
+    struct grid groups, thresholds, states, acknowledgements;
     uint32_t cpus, items;
 };
 
@@ -117,19 +127,52 @@ static inline void grow(struct work *w, uint32_t number, uint64_t size)
 #endif
 }
 
+/* So many words, or as many as fill whole lines where each CPU has lines of its own. */
+static size_t in_lines(size_t words)
+{
+#ifdef FLAT
+    return words;
+#else
+    return (words + LINE - 1) / LINE * LINE;
+#endif
+}
+
+/* The words of each CPU, which follow those of no CPU: by kind, or by CPU. */
+static struct grid next_kind(size_t *at, size_t *in_row, size_t count, uint32_t cpus, size_t width)
+{
+#ifdef FLAT
+    (void)in_row, (void)width;
+    struct grid grid = {*at, count};
+    *at += cpus * count;
+#else
+    (void)cpus;
+    struct grid grid = {*at + *in_row, width};
+    *in_row += count;
+#endif
+    return grid;
+}
+
 static struct blocks page_blocks(uint32_t cpus)
 {
     uint32_t items = cpus > 64 ? 2 * ITEMS : ITEMS;
-    struct blocks b = {
-        .groups_each = items * PLACES / 8, .places_each = PLACES, .zones_each = ZONES, .cpus = cpus, .items = items};
-    b.systems = items * PLACES;
-    b.groups = b.systems + 2 * items;
-    b.thresholds = b.groups + cpus * b.groups_each;
-    b.marks = b.thresholds + cpus * b.places_each;
-    b.states = b.marks + b.zones_each;
-    b.acknowledgements = b.states + cpus;
-    b.end = b.acknowledgements + cpus * b.zones_each;
+    size_t groups = items * PLACES / 8, width = in_lines(groups + PLACES + ZONES + 1), in_row = 0;
+    struct blocks b = {.systems = items * PLACES, .cpus = cpus, .items = items};
+    b.marks = b.systems + 2 * items;
+    b.end = in_lines(b.marks + ZONES);
+    b.groups = next_kind(&b.end, &in_row, groups, cpus, width);
+    b.thresholds = next_kind(&b.end, &in_row, PLACES, cpus, width);
+    b.acknowledgements = next_kind(&b.end, &in_row, ZONES, cpus, width);
+    b.states = next_kind(&b.end, &in_row, 1, cpus, width);
+#ifndef FLAT
+    b.end += cpus * width;
+#endif
     return b;
+}
+
+/* The word of a thing of a CPU. */
+static inline _Atomic uint64_t *in(const struct work *w, struct grid grid, uint32_t cpu, size_t thing)
+{
+    return &w->words[grid.start + cpu * grid.each + thing];
 }
 
 /* The differential of a counter in the word of its group: byte i is the one of the group's counter i. */
@@ -150,8 +193,8 @@ CALLED void change(struct work *w, uint32_t counter, int64_t delta)
 {
     _Atomic uint64_t *words = w->words;
     uint32_t place = counter / ITEMS, item = counter % ITEMS;
-    uint64_t t = atomic_load(&words[w->blocks.thresholds + w->cpu * w->blocks.places_each + place]) & UINT32_MAX;
-    _Atomic uint64_t *group = &words[w->blocks.groups + w->cpu * w->blocks.groups_each + counter / 8];
+    uint64_t t = atomic_load(in(w, w->blocks.thresholds, w->cpu, place)) & UINT32_MAX;
+    _Atomic uint64_t *group = in(w, w->blocks.groups, w->cpu, counter / 8);
     uint64_t found = atomic_load(group);
     int64_t carried;
     for (;;) {
@@ -186,8 +229,8 @@ CALLED void fold(const struct work *w)
     for (uint32_t place = 0; place < PLACES; place++) {
         bool is_zone = place < ZONES;
         uint64_t number =
-            is_zone ? atomic_load(&words[b->thresholds + w->cpu * b->places_each + place]) >> 32 : 0;
-        uint64_t taken = atomic_exchange(&words[b->groups + w->cpu * b->groups_each + place], 0);
+            is_zone ? atomic_load(in(w, b->thresholds, w->cpu, place)) >> 32 : 0;
+        uint64_t taken = atomic_exchange(in(w, b->groups, w->cpu, place), 0);
         for (uint32_t item = 0; item < ITEMS; item++) {
             int64_t amount = differential(taken, item);
             if (amount != 0) {
@@ -196,7 +239,7 @@ CALLED void fold(const struct work *w)
             }
         }
         if (is_zone)
-            atomic_exchange(&words[b->acknowledgements + w->cpu * b->zones_each + place], number + 1);
+            atomic_exchange(in(w, b->acknowledgements, w->cpu, place), number + 1);
     }
     for (uint32_t item = 0; item < 2 * ITEMS; item++)
         if (sums[item] != 0)
@@ -256,8 +299,8 @@ static uint64_t snapshot(const struct work *w, uint32_t counter)
     const struct blocks *b = &w->blocks;
     int64_t sum = (int64_t)atomic_load(&words[counter]);
     for (uint32_t cpu = 0; cpu < b->cpus; cpu++)
-        if (atomic_load(&words[b->states + cpu]) == 0) /* online */
-            sum += differential(atomic_load(&words[b->groups + cpu * b->groups_each + counter / 8]), counter);
+        if (atomic_load(in(w, b->states, cpu, 0)) == 0) /* online */
+            sum += differential(atomic_load(in(w, b->groups, cpu, counter / 8)), counter);
     return clamped(sum);
 }
 
@@ -290,31 +333,49 @@ static void *test_watermark(void *arg)
     return NULL;
 }
 
+/* How many words stand from those of a CPU's events to those of the next one's. */
+static inline _Atomic uint64_t *event_word(_Atomic uint64_t *words, uint32_t cpu)
+{
+    return &words[cpu * in_lines(EVENTS) + EVENT];
+}
+
 static void *count_events(void *arg)
 {
     struct work *w = arg;
     for (uint64_t n = 0; n < w->changes; n++) {
-        atomic_fetch_add(&w->words[w->cpu * EVENTS + EVENT], 1);
+        atomic_fetch_add(event_word(w->words, w->cpu), 1);
         grow(w, EVENT, 1);
     }
     return NULL;
 }
 
-/* Where the words of the percpu counters stand: the shared parts, the locks, and the local parts by CPU and then
- * counter. */
+/* Where the words of the percpu counters stand: the shared parts and the locks, each pair on a line of its own, and
+ * then the local parts, those of each CPU on lines of their own. With -DFLAT first all shared parts, and then all
+ * locks. */
+#ifdef FLAT
+enum { PAIR = 1, LOCK_AFTER = COUNTERS, LOCALS_AT = 2 * COUNTERS };
+#else
+enum { PAIR = LINE, LOCK_AFTER = 1, LOCALS_AT = PAIR * COUNTERS };
+#endif
+
+static inline _Atomic uint64_t *shared_part(const struct work *w, uint32_t counter)
+{
+    return &w->words[counter * PAIR];
+}
+
 static inline _Atomic uint64_t *local_part(const struct work *w, uint32_t cpu, uint32_t counter)
 {
-    return &w->words[2 * COUNTERS + cpu * COUNTERS + counter];
+    return &w->words[LOCALS_AT + cpu * in_lines(COUNTERS) + counter];
 }
 
 /* Moves the local part of the CPU to the shared part together with an amount, under the counter's lock. */
 static void move_local(struct work *w, uint32_t counter, int64_t amount)
 {
-    _Atomic uint64_t *lock = &w->words[COUNTERS + counter];
+    _Atomic uint64_t *lock = shared_part(w, counter) + LOCK_AFTER;
     for (uint64_t found = 0; !atomic_compare_exchange_strong(lock, &found, 1); found = 0)
         ;
     uint64_t local = atomic_exchange(local_part(w, w->cpu, counter), 0);
-    atomic_fetch_add(&w->words[counter], local + (uint64_t)amount);
+    atomic_fetch_add(shared_part(w, counter), local + (uint64_t)amount);
     atomic_exchange(lock, 0);
 }
 
@@ -392,6 +453,20 @@ static void *zeros(size_t count, size_t size)
     return found;
 }
 
+/* Words that begin a line. */
+static _Atomic uint64_t *lines_of_zeros(size_t count)
+{
+    size_t bytes = (count + LINE - 1) / LINE * LINE * sizeof(uint64_t);
+    _Atomic uint64_t *words = aligned_alloc(LINE * sizeof(uint64_t), bytes);
+    if (words == NULL) {
+        fputs("words: want of memory\n", stderr);
+        exit(2);
+    }
+    for (size_t n = 0; n < count; n++)
+        atomic_store(&words[n], 0);
+    return words;
+}
+
 /* Writes what the words of a kind's program are once every thread has ended. */
 static void write_numbers(const struct kind *kind, const struct work *each, int threads)
 {
@@ -400,10 +475,10 @@ static void write_numbers(const struct kind *kind, const struct work *each, int 
     if (kind->body == count_events) {
         uint64_t total = 0;
         for (int cpu = 0; cpu < CPUS; cpu++)
-            total += atomic_load(&words[cpu * EVENTS + EVENT]);
+            total += atomic_load(event_word(words, (uint32_t)cpu));
         printf("counted %llu\n", (unsigned long long)total);
     } else if (kind->body == add_locals) {
-        int64_t sum = (int64_t)atomic_load(&words[counter]);
+        int64_t sum = (int64_t)atomic_load(shared_part(&each[0], counter));
         for (uint32_t cpu = 0; cpu < CPUS; cpu++)
             sum += (int64_t)atomic_load(local_part(&each[0], cpu, counter));
         printf("sum %lld\n", (long long)sum);
@@ -425,22 +500,26 @@ static void write_numbers(const struct kind *kind, const struct work *each, int 
 int main(int argc, char **argv)
 {
     char *end = NULL;
-    const struct kind *kind = argc == 4 ? kind_of(argv[1]) : NULL;
-    uint64_t changes = argc == 4 ? strtoull(argv[2], &end, 10) : 0;
-    int threads = argc == 4 && *end == '\0' ? atoi(argv[3]) : 0;
-    if (kind == NULL || threads < 1 || threads > MOST_THREADS || changes == 0) {
-        fputs("usage: words KIND CALLS THREADS, where KIND is one of\n", stderr);
+    const struct kind *kind = argc == 5 ? kind_of(argv[1]) : NULL;
+    uint64_t changes = argc == 5 ? strtoull(argv[2], &end, 10) : 0;
+    int threads = argc == 5 && *end == '\0' ? atoi(argv[3]) : 0;
+    bool near = argc == 5 && strcmp(argv[4], "near") == 0;
+    if (kind == NULL || threads < 1 || threads > MOST_THREADS || changes == 0 ||
+        (!near && strcmp(argv[4], "apart") != 0)) {
+        fputs("usage: words KIND CALLS THREADS near|apart, where KIND is one of\n", stderr);
         for (size_t n = 0; n < sizeof kinds / sizeof *kinds; n++)
             fprintf(stderr, "    %s\n", kinds[n].name);
         return 2;
     }
-    if ((uint32_t)(CPUS_APART * (threads - 1)) >= kind->cpus) {
+    uint32_t apart = near ? 1 : CPUS_APART;
+    if (apart * (uint32_t)(threads - 1) >= kind->cpus) {
         fputs("words: too few CPUs for so many threads\n", stderr);
         return 2;
     }
     struct blocks blocks = page_blocks(kind->cpus);
-    size_t locals_end = 2 * COUNTERS + CPUS * COUNTERS; /* more than there are words of events */
-    _Atomic uint64_t *words = zeros(locals_end > blocks.end ? locals_end : blocks.end, sizeof *words);
+    size_t locals_end = LOCALS_AT + CPUS * in_lines(COUNTERS); /* more than there are words of events */
+    size_t end_of_words = locals_end > blocks.end ? locals_end : blocks.end;
+    _Atomic uint64_t *words = lines_of_zeros(end_of_words);
     struct header *header = zeros(1, sizeof *header);
     header->count = ZONES;
     header->zones[0] = (struct zone){0, NORMAL, 1 << 20, 10000, 20000, 30000};
@@ -453,19 +532,20 @@ int main(int argc, char **argv)
                                 blocks,
                                 header,
                                 batches,
-                                (uint32_t)(CPUS_APART * n),
+                                apart * (uint32_t)n,
                                 (uint32_t)threads,
                                 0,
                                 changes,
                                 zeros(ITEMS * PLACES, sizeof(uint64_t)),
                                 {0}};
     if (kind->body != count_events && kind->body != add_locals) {
-        for (size_t n = 0; n < blocks.groups; n++)
+        for (size_t n = 0; n < blocks.marks; n++)
             atomic_store(&words[n], (uint64_t)kind->value);
-        for (size_t n = blocks.thresholds; n < blocks.marks; n++)
-            atomic_store(&words[n], THRESHOLD);
-        for (size_t n = blocks.marks; n < blocks.states; n++)
-            atomic_store(&words[n], MARK);
+        for (size_t n = 0; n < ZONES; n++)
+            atomic_store(&words[blocks.marks + n], MARK);
+        for (uint32_t cpu = 0; cpu < kind->cpus; cpu++)
+            for (size_t place = 0; place < PLACES; place++)
+                atomic_store(in(&each[0], blocks.thresholds, cpu, place), THRESHOLD);
     }
     run_all(each, threads, kind->body);
     write_numbers(kind, each, threads);

@@ -1,14 +1,13 @@
 -- Words of zeros, with every CPU online, are a base of the event counters.
-use Rattle.std.proofs.Common.{◌≡◌, ℕ, ◌*◌, ◌^◌, ◌<◌, ◌≤◌, ℤ, pos, ◌≤ℤ◌, List, length, get_or, replicate, refl, ap, sym}
-use Rattle.std.proofs.Common.{◌∙◌, subst, arith, ⊎_elim}
+use Rattle.std.proofs.Common.{◌≡◌, ℕ, ◌^◌, ◌<◌, ◌≤◌, ℤ, pos, ◌≤ℤ◌, List, length, get_or, replicate, ap, sym, ◌∙◌, subst}
+use Rattle.std.proofs.Common.{arith, ⊎_elim}
 use Rattle.std.proofs.lemmas.Bool.{cases_lt}
 use Rattle.std.proofs.lemmas.Int.{ints}
 use Rattle.std.proofs.lemmas.List.{get_or_past, get_or-replicate, length-replicate}
 use Rattle.vms_calls.specs.Common.{CpuState, Online, Absent, Shape, IsLayout, cell}
 use Rattle.vms_history.proofs.Common.{sum_below-zeros}
-use Rattle.vms_event_core.specs.declared.states.EventState.{EventState}
 use Rattle.vms_event_core.specs.declared.steps.EventFacts.{EventFacts}
-use Rattle.vms_event_core.specs.Common.{IsBase, event_count, word_at, sum_of_words}
+use Rattle.vms_event_core.specs.Common.{IsBase, event_count, word_at}
 use Rattle.vms_bench.specs.Common.{AreOnline}
 
 -- each entry of a list of copies is the copy, and past its end too where that is the default

@@ -1,6 +1,5 @@
 -- A pass begins that counts events, on a CPU that has counted nothing.
-use Rattle.std.proofs.Common.{◌≡◌, ℕ, ◌+◌, ◌<◌, ◌≤◌, [], ◌∷◌, ◌++◌, Option, Some, None, refl, ap, sym, ◌∙◌, subst}
-use Rattle.std.proofs.Common.{arith}
+use Rattle.std.proofs.Common.{◌≡◌, ℕ, ◌<◌, ◌≤◌, [], ◌++◌, Option, Some, None, refl, ap, sym, ◌∙◌, subst, arith}
 use Rattle.vms_calls.specs.Common.{CpuId, own, owner_in, IsFree}
 use Rattle.vms_history.proofs.Common.{holds_while_free, own-on_top}
 use Rattle.vms_event_core.specs.declared.steps.EventFacts.{EventFacts}

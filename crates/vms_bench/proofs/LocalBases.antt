@@ -1,6 +1,5 @@
 -- Zeros, with every CPU online and the same batch for each counter, are a base of the percpu counters.
-use Rattle.std.proofs.Common.{◌≡◌, ℕ, ◌*◌, ◌^◌, ◌<◌, ◌≤◌, ℤ, pos, unsigned_abs, List, length, get_or, replicate, refl}
-use Rattle.std.proofs.Common.{ap, sym, ◌∙◌, subst, arith}
+use Rattle.std.proofs.Common.{◌≡◌, ℕ, ◌*◌, ◌<◌, ℤ, pos, unsigned_abs, List, length, replicate, ap, sym, ◌∙◌, arith}
 use Rattle.std.proofs.lemmas.List.{get_or-replicate, length-replicate}
 use Rattle.vms_calls.specs.Common.{CpuState, Online, Absent, Shape, IsLayout, cell}
 use Rattle.vms_core.proofs.Common.{get_or-copies}

@@ -1,6 +1,5 @@
 -- A pass begins that adds to percpu counters, on a CPU that has added nothing.
-use Rattle.std.proofs.Common.{◌≡◌, ℕ, ◌+◌, ◌<◌, ◌≤◌, List, [], ◌++◌, length, replicate, Some, ap, sym, ◌∙◌, subst}
-use Rattle.std.proofs.Common.{arith}
+use Rattle.std.proofs.Common.{◌≡◌, ℕ, ◌<◌, ◌≤◌, List, [], length, replicate, Some, ap, sym, ◌∙◌, subst, arith}
 use Rattle.std.proofs.lemmas.List.{length-replicate}
 use Rattle.vms_calls.specs.Common.{CpuId, own, owner_in}
 use Rattle.vms_history.proofs.Common.{own-on_top}

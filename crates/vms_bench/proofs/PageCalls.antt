@@ -1,8 +1,8 @@
 -- What the calls of a change leave.
-use Rattle.std.proofs.Common.{◌≡◌, ◌≢◌, ℕ, ◌<◌, ℤ, pos, List, ◌∷◌, Option, Some, unwrap_or, refl, sym, ap, ◌∙◌, subst}
+use Rattle.std.proofs.Common.{◌≡◌, ◌≢◌, ℕ, ℤ, pos, List, ◌∷◌, Option, Some, unwrap_or, refl, sym, ap, ◌∙◌, subst}
 use Rattle.vms_calls.specs.Common.{Diffs, CpuId, CounterId, GroupId, Mode, Shape, group_of, place_of, Event, own, Facts}
 use Rattle.vms_calls.specs.Common.{Step, LoadT, LoadD, Put, Miss, AddG, AddS, eight_zeros, AddsToPlace, AddsToSystem}
-use Rattle.vms_calls.specs.Common.{CarriesNothing, carried_of_item, found, loaded, pages}
+use Rattle.vms_calls.specs.Common.{CarriesNothing, carried_of_item, loaded, pages}
 use Rattle.vms_seats.specs.Common.{MadeOne}
 use Rattle.vms_words.specs.Common.{OwningPass, HasPut, HasMissed}
 use Rattle.vms_bench.specs.declared.changes.Target.{Target}

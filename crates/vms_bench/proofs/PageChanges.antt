@@ -1,6 +1,6 @@
 -- What a pass carries on its way through a change.
-use Rattle.std.proofs.Common.{◌≡◌, ◌≢◌, ℕ, ◌+◌, ◌≤◌, nat_eq, Bool, true, false, ℤ, pos, neg_ℤ, ◌+ℤ◌, List, [], ◌∷◌}
-use Rattle.std.proofs.Common.{Some, refl, sym, ap, ◌∙◌, subst, arith, eq-eqb, if◌then◌else◌, unsigned_abs}
+use Rattle.std.proofs.Common.{◌≡◌, ℕ, nat_eq, Bool, true, false, ℤ, pos, neg_ℤ, ◌+ℤ◌, List, ◌∷◌, Some, refl, sym, ◌∙◌}
+use Rattle.std.proofs.Common.{arith, eq-eqb, if◌then◌else◌}
 use Rattle.std.proofs.lemmas.Int.{ints}
 use Rattle.vms_calls.specs.Common.{Diffs, CounterId, CpuId, GroupId, ItemId, PlaceId, Mode, Shape, group_of, item_of}
 use Rattle.vms_calls.specs.Common.{place_of, Event, Step, LoadT, LoadD, Put, Miss, AddG, AddS, entry, eight_zeros}

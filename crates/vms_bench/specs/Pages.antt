@@ -1,5 +1,5 @@
 -- What is known of the page counters while threads change them.
-use Rattle.std.specs.Prelude.{◌≡◌, ℕ, ◌<◌, ◌≤◌, nat_eq, ℤ, pos, List, if◌then◌else◌, Some}
+use Rattle.std.specs.Prelude.{◌≡◌, ℕ, nat_eq, ℤ, pos, List, if◌then◌else◌, Some}
 use Rattle.vms_calls.specs.Common.{CpuId, Shape, IsCpu, IsCounter, IsGroup, IsItem, group_of, item_of, place_of, Event}
 use Rattle.vms_calls.specs.Common.{own, Facts, Step, carried, carried_of_item, found, loaded, CarriesNothing}
 use Rattle.vms_seats.specs.Common.{Shared, IsFrom}

@@ -9,7 +9,7 @@ use std::alloc::{AllocError, Global};
 use std::thread;
 use std::thread::Threads;
 use vms_base::{CpuState, EventId, Memory, Overflow, Row, Volume};
-use vms_bench_base::{MOST_THREADS, cpu_of_thread, machine};
+use vms_bench_base::{Distance, MOST_THREADS, cpu_of_thread, machine};
 use vms_event::{EventMain, EventPass, EventTable};
 use vms_event_core::EventState;
 
@@ -25,12 +25,13 @@ pub(crate) fn count_events<R: Threads + Sync>(
     alloc: Global,
     changes: u64,
     threads: u32,
+    distance: Distance,
 ) -> Result<u64> {
     if threads == 0 || threads > MOST_THREADS {
         bail!("1 to {MOST_THREADS} threads can count");
     }
     let (table, mut main) = make_table(alloc)?;
-    let passes = begin_passes(alloc, &table, &mut main, threads)?;
+    let passes = begin_passes(alloc, &table, &mut main, threads, distance)?;
     last_total(&table, count_each(rt, &table, passes, changes)?)
 }
 
@@ -52,6 +53,7 @@ fn begin_passes(
     table: &EventTable,
     main: &mut EventMain,
     threads: u32,
+    distance: Distance,
 ) -> Result<Vec<EventPass>, Memory>
     requires table { IsFrom main.old table.now }
     requires begins { main.old.seen ≡ [] }
@@ -62,7 +64,7 @@ fn begin_passes(
     let mut passes = Vec::with_capacity(alloc, threads as usize)?;
     for thread in 0..threads {
         let volume: Volume = Row::filled(alloc, EVENTS, 0)?;
-        passes.push(table.cpu_pass(main, cpu_of_thread(thread), volume))?;
+        passes.push(table.cpu_pass(main, cpu_of_thread(distance, thread), volume))?;
     }
     Ok(passes)
 }

@@ -9,7 +9,7 @@ use std::sync::Wait;
 use std::thread;
 use std::thread::Threads;
 use vms_base::{CpuState, Memory, Overflow, PcpuId, Row, Volume};
-use vms_bench_base::{MOST_THREADS, cpu_of_thread, machine};
+use vms_bench_base::{Distance, MOST_THREADS, cpu_of_thread, machine};
 use vms_pcpu::{PcpuMain, PcpuPass, PcpuTable};
 use vms_pcpu_core::PcpuState;
 
@@ -28,13 +28,14 @@ pub(crate) fn add_locals<R: Threads + Wait + Sync>(
     alloc: Global,
     changes: u64,
     threads: u32,
+    distance: Distance,
 ) -> Result<i64> {
     if threads == 0 || threads > MOST_THREADS {
         bail!("1 to {MOST_THREADS} threads can add");
     }
     let counter = PcpuId { number: threads };
     let (table, mut main) = make_table(alloc)?;
-    let passes = begin_passes(alloc, &table, &mut main, threads)?;
+    let passes = begin_passes(alloc, &table, &mut main, threads, distance)?;
     last_sum(
         rt,
         &table,
@@ -68,6 +69,7 @@ fn begin_passes(
     table: &PcpuTable,
     main: &mut PcpuMain,
     threads: u32,
+    distance: Distance,
 ) -> Result<Vec<PcpuPass>, Memory>
     requires table { IsFrom main.old table.now }
     requires begins { main.old.seen ≡ [] }
@@ -78,7 +80,7 @@ fn begin_passes(
     let mut passes = Vec::with_capacity(alloc, threads as usize)?;
     for thread in 0..threads {
         let volume: Volume = Row::filled(alloc, COUNTERS, 0)?;
-        passes.push(table.cpu_pass(main, cpu_of_thread(thread), volume))?;
+        passes.push(table.cpu_pass(main, cpu_of_thread(distance, thread), volume))?;
     }
     Ok(passes)
 }

@@ -22,18 +22,19 @@ fn main(rt: HostRuntime) -> Result<()> {
         kind,
         changes,
         threads,
+        distance,
     } = read_request(&rt)?;
     match kind {
         Kind::Events => {
-            let total = count_events(&rt, rt.alloc(), changes, threads)?;
+            let total = count_events(&rt, rt.alloc(), changes, threads, distance)?;
             println!(rt; "counted {total}")?;
         }
         Kind::Locals => {
-            let sum = add_locals(&rt, rt.alloc(), changes, threads)?;
+            let sum = add_locals(&rt, rt.alloc(), changes, threads, distance)?;
             println!(rt; "sum {sum}")?;
         }
         Kind::Pages => {
-            let (value, system) = change_pages(&rt, rt.alloc(), changes, threads)?;
+            let (value, system) = change_pages(&rt, rt.alloc(), changes, threads, distance)?;
             println!(rt; "value {value}, system-wide {system}")?;
         }
     }

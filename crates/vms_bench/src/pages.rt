@@ -10,7 +10,7 @@ use std::alloc::{AllocError, Global};
 use std::thread;
 use std::thread::Threads;
 use vms_base::{CounterId, Overflow};
-use vms_bench_base::{MOST_THREADS, Started, last_values, machine, start};
+use vms_bench_base::{Distance, MOST_THREADS, Started, last_values, machine, start};
 use vms_words::{CpuPass, PageTable};
 
 /// What a change adds, in pages: 19 changes stay within the threshold, and the 20th passes it.
@@ -23,11 +23,12 @@ pub(crate) fn change_pages<R: Threads + Sync>(
     alloc: Global,
     changes: u64,
     threads: u32,
+    distance: Distance,
 ) -> Result<(i64, i64)> {
     if threads == 0 || threads > MOST_THREADS {
         bail!("1 to {MOST_THREADS} threads can change a counter");
     }
-    let Started { table, passes, .. } = start(alloc, machine(CPUS)?, 0, threads)?;
+    let Started { table, passes, .. } = start(alloc, machine(CPUS)?, 0, threads, distance)?;
     let counter = CounterId { number: threads };
     let changed = change_each(rt, &table, passes, counter, changes)?;
     Ok(last_values(&table, changed, counter)?)

@@ -1,4 +1,5 @@
 pub mod Beginning
+pub mod ThreadCpus
 mod Counters
 mod LevelBases
 mod PagePasses

@@ -1,4 +1,5 @@
 pub mod Beginnings
+pub mod Distances
 pub mod Levels
 pub mod Machines
 pub mod ReadyPasses

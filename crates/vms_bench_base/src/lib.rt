@@ -6,5 +6,5 @@ mod levels;
 mod machines;
 mod tables;
 
-pub use machines::{MOST_THREADS, cpu_of_thread, machine};
+pub use machines::{Distance, MOST_THREADS, cpu_of_thread, machine};
 pub use tables::{Started, last_values, start};

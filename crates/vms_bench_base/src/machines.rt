@@ -1,12 +1,19 @@
-ghost use Rattle.std.specs.Prelude.{◌≡◌, ◌*◌, ◌<◌, IfOk};
+ghost use Rattle.std.specs.Prelude.{◌≡◌, ◌<◌, IfOk};
 ghost use Rattle.vms_calls.specs.Common.{IsLayout};
+ghost use Rattle.vms_bench_base.specs.Distances.{cpu_number};
 ghost use Rattle.vms_bench_base.specs.Machines.{IsMachine};
 
 use std::alloc::Global;
 use vms_base::{CpuId, Header, Layout, LayoutError, Memory, Row, ZoneKind, ZoneName, ZoneSize};
 
-/// How far apart the CPUs are on which threads work. No two of them have words in one line of the cache.
-const APART: u32 = 16;
+/// How far apart the CPUs are on which threads work.
+#[derive(Clone, Copy, Debug, PartialEq, Eq)]
+pub enum Distance {
+    /// Side by side: 0, 1, 2 and 3.
+    Near,
+    /// 16 apart: 0, 16, 32 and 48.
+    Apart,
+}
 
 /// The most threads.
 pub const MOST_THREADS: u32 = 4;
@@ -50,11 +57,13 @@ pub(crate) fn header(alloc: Global, layout: Layout) -> Result<Header, Memory>
 }
 
 /// The CPU of a thread.
-pub fn cpu_of_thread(thread: u32) -> CpuId
+pub fn cpu_of_thread(distance: Distance, thread: u32) -> CpuId
     requires { thread < 4 }
-    ensures { result.number ≡ 16 * thread }
+    ensures { result.number ≡ cpu_number distance thread }
 {
-    CpuId {
-        number: APART * thread,
-    }
+    let number = match distance {
+        Distance::Near => thread,
+        Distance::Apart => 16 * thread,
+    };
+    CpuId { number }
 }

@@ -1,12 +1,13 @@
-ghost use Rattle.std.specs.Prelude.{◌≡◌, ◌+◌, ◌*◌, ◌^◌, ◌≤◌, [], All, IfOk, unsigned_abs};
+ghost use Rattle.std.specs.Prelude.{◌≡◌, ◌^◌, ◌≤◌, [], All, IfOk, unsigned_abs};
 ghost use Rattle.vms_calls.specs.Common.{IsCounter};
+ghost use Rattle.vms_bench_base.specs.Distances.{HasCpus};
 ghost use Rattle.vms_bench_base.specs.Machines.{AreOnline, IsMachine};
 ghost use Rattle.vms_bench_base.specs.ReadyPasses.{IsReady};
 ghost use Rattle.vms_bench_base.specs.Starts.{IsStarted};
 ghost use Rattle.vms_seats.specs.Common.{IsFrom};
 
 use crate::levels::level;
-use crate::machines::{cpu_of_thread, header};
+use crate::machines::{Distance, cpu_of_thread, header};
 use std::alloc::Global;
 use vms_base::{CounterId, Header, Layout, Memory, Overflow, Row, Volume};
 use vms_words::{CpuPass, MainPass, PageTable};
@@ -19,17 +20,23 @@ pub struct Started {
     pub passes: Vec<CpuPass>,
 }
 
-/// The page counters of a machine, which all have one value, in pages, and passes for so many threads, whose CPUs stand
-/// 16 apart.
-pub fn start(alloc: Global, layout: Layout, value: i64, threads: u32) -> Result<Started, Memory>
+/// The page counters of a machine, which all have one value, in pages, and passes for so many threads, on CPUs at this
+/// distance.
+pub fn start(
+    alloc: Global,
+    layout: Layout,
+    value: i64,
+    threads: u32,
+    distance: Distance,
+) -> Result<Started, Memory>
     requires value { unsigned_abs value ≤ 2 ^ 60 }
     requires threads { threads ≤ 4 }
-    requires cpus { 16 * threads ≤ layout.cpus + 15 }
+    requires cpus { HasCpus distance threads layout.cpus }
     ensures { IfOk result IsStarted }
 {
     let header = header(alloc, layout)?;
     let (table, mut main) = make_table(alloc, &header, value)?;
-    let passes = begin_passes(alloc, &table, &mut main, threads)?;
+    let passes = begin_passes(alloc, &table, &mut main, threads, distance)?;
     Ok(Started {
         header,
         table,
@@ -57,19 +64,20 @@ fn begin_passes(
     table: &PageTable,
     main: &mut MainPass,
     threads: u32,
+    distance: Distance,
 ) -> Result<Vec<CpuPass>, Memory>
     requires table { IsFrom main.old table.now }
     requires begins { main.old.seen ≡ [] }
     requires online { AreOnline table.now.facts }
     requires threads { threads ≤ 4 }
-    requires cpus { 16 * threads ≤ table.now.facts.layout.cpus + 15 }
+    requires cpus { HasCpus distance threads table.now.facts.layout.cpus }
     ensures { IfOk result (λ passes. All (IsReady table.now) passes.items) }
 {
     let counters = table.layout().counters() as usize;
     let mut passes = Vec::with_capacity(alloc, threads as usize)?;
     for thread in 0..threads {
         let volume: Volume = Row::filled(alloc, counters, 0)?;
-        passes.push(table.cpu_pass(main, cpu_of_thread(thread), volume))?;
+        passes.push(table.cpu_pass(main, cpu_of_thread(distance, thread), volume))?;
     }
     Ok(passes)
 }

@@ -16,10 +16,18 @@ fn main(rt: HostRuntime) -> Result<()> {
         kind,
         calls,
         threads,
+        distance,
     } = read_request(&rt)?;
     match kind {
         Kind::Changes(change) => {
-            let (value, system) = change_counter(&rt, rt.alloc(), change, calls, threads)?;
+            let (value, system) = change_counter(
+                &rt,
+                rt.alloc(),
+                change,
+                calls,
+                threads,
+                distance,
+            )?;
             println!(rt; "value {value}, system-wide {system}")?;
         }
         Kind::Tests { cpus, free } => {
@@ -27,7 +35,7 @@ fn main(rt: HostRuntime) -> Result<()> {
                 yes,
                 snapshots,
                 free,
-            } = test_watermark(&rt, rt.alloc(), cpus, free, calls, threads)?;
+            } = test_watermark(&rt, rt.alloc(), cpus, free, calls, threads, distance)?;
             println!(rt; "yes {yes}, by snapshots {snapshots}, free pages {free}")?;
         }
     }

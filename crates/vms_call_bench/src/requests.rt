@@ -1,6 +1,7 @@
 use anyhow::{Context, Result, bail};
 use std::env;
 use std::env::Env;
+use vms_bench_base::Distance;
 
 /// Which calls threads make.
 #[derive(Clone, Copy, Debug)]
@@ -27,10 +28,11 @@ pub(crate) struct Request {
     /// How many calls each thread makes.
     pub calls: u64,
     pub threads: u32,
+    pub distance: Distance,
 }
 
 const USAGE: &str =
-    "usage: vms_call_bench adds|folds|watermarks|snapshots4|snapshots64|snapshots128 CALLS THREADS";
+    "usage: vms_call_bench adds|folds|watermarks|snapshots4|snapshots64|snapshots128 CALLS THREADS near|apart";
 
 /// Free pages well above the zone's drift mark.
 const PLENTY: u32 = 100_000;
@@ -41,7 +43,7 @@ const FEW: u32 = 40_000;
 /// The request of the words after the program's name.
 pub(crate) fn read_request<R: Env + AllocGlobal>(rt: &R) -> Result<Request> {
     let words: Vec<String> = env::args(rt)?.skip(1).collect(rt.alloc())?;
-    let [kind, calls, threads] = words.as_slice() else {
+    let [kind, calls, threads, distance] = words.as_slice() else {
         bail!("{USAGE}");
     };
     let Some(kind) = kind_of(kind.as_str()) else {
@@ -49,10 +51,16 @@ pub(crate) fn read_request<R: Env + AllocGlobal>(rt: &R) -> Result<Request> {
     };
     let calls = calls.as_str().parse::<u64>().context(USAGE)?;
     let threads = threads.as_str().parse::<u32>().context(USAGE)?;
+    let distance = match distance.as_str() {
+        "near" => Distance::Near,
+        "apart" => Distance::Apart,
+        _ => bail!("{USAGE}"),
+    };
     Ok(Request {
         kind,
         calls,
         threads,
+        distance,
     })
 }
 

@@ -7,7 +7,7 @@ use std::alloc::{AllocError, Global};
 use std::thread;
 use std::thread::Threads;
 use vms_base::{Header, PlaceId, WaterMark};
-use vms_bench_base::{MOST_THREADS, Started, machine, start};
+use vms_bench_base::{Distance, MOST_THREADS, Started, cpu_of_thread, machine, start};
 use vms_look::watermark_ok;
 use vms_words::{CpuPass, PageTable};
 
@@ -37,19 +37,24 @@ pub(crate) fn test_watermark<R: Threads + Sync>(
     free: u32,
     calls: u64,
     threads: u32,
+    distance: Distance,
 ) -> Result<Tally> {
     if threads == 0 || threads > MOST_THREADS {
         bail!("1 to {MOST_THREADS} threads can test a watermark");
     }
     let layout = machine(cpus)?;
-    if 16 * threads > cpus + 15 {
-        bail!("the CPUs of threads stand 16 apart, and there are {cpus}");
+    let last = cpu_of_thread(distance, threads - 1);
+    if last.number >= cpus {
+        bail!(
+            "a thread works on CPU {}, and there are {cpus}",
+            last.number
+        );
     }
     let Started {
         header,
         table,
         passes,
-    } = start(alloc, layout, i64::from(free), threads)?;
+    } = start(alloc, layout, i64::from(free), threads, distance)?;
     Ok(sum(test_each(rt, &table, &header, passes, calls)?))
 }
 

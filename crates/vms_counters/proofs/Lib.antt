@@ -5,3 +5,4 @@ mod SpentByOthers
 mod Between
 mod ThreeTables
 mod EventVolumes
+mod FoundStates

@@ -1,11 +1,11 @@
 -- What contracts see of a handle, and what it keeps between two calls.
-use Rattle.std.specs.Prelude.{◌≡◌, ℕ, List, Some, None}
+use Rattle.std.specs.Prelude.{◌≡◌, ℕ, List, [], Some, None}
 use Rattle.vms_core.specs.Own.{CarriesNothing}
 use Rattle.vms_world.specs.Common.{CpuId, CpuVolumes, EventFacts, EventStep, Facts, Header, IsHeader, Step, own}
 use Rattle.vms_seats.specs.Common.{IsFrom, Pass, Shared}
 use Rattle.vms_event.specs.CpuPasses as event_passes
 use Rattle.vms_pcpu.specs.IdlePasses as pcpu_passes
-use Rattle.vms_counters.specs.declared.control_passes.ControlPasses.{ControlPasses}
+use Rattle.vms_burial.specs.declared.passes.ControlPasses.{ControlPasses}
 use Rattle.vms_tables.specs.Common.{TablePasses}
 use Rattle.vms_tables.specs.declared.passes.CpuPasses.{CpuPasses}
 use Rattle.vms_tables.specs.declared.tables.Tables.{Tables}
@@ -30,10 +30,6 @@ pub record AnyHandle : Type 0 where
   pub page : PageHandle
   pub event : EventHandle
   pub pcpu : PcpuHandle
-
--- the passes of a control handle
-abbrev pub control_passes_of : ControlPasses → TablePasses
-control_passes_of passes = record { pages = passes.page; events = passes.event; counters = passes.pcpu }
 
 -- the passes of a handle, and its volumes
 abbrev pub passes_of : AnyHandle → TablePasses
@@ -64,6 +60,15 @@ pub record IsBetweenCalls (words : Shared Facts) (pass : Pass Facts Step) : Type
 -- the handle with this page pass
 abbrev pub handle_of : Header → Pass Facts Step → List ℕ → PageHandle
 handle_of header pass volume = record { header = header; pass = pass; volume = volume }
+
+-- the control handle with these passes
+abbrev pub control_of : Header → Tables → ControlPasses → AnyHandle
+control_of header tables passes = record {
+  tables = tables;
+  page = handle_of header passes.page [];
+  event = record { pass = passes.event; volume = [] };
+  pcpu = record { pass = passes.pcpu; volume = [] };
+}
 
 -- the handle with this event pass
 abbrev pub event_handle : Pass EventFacts EventStep → List ℕ → EventHandle

@@ -4,4 +4,5 @@ pub mod Opened
 pub mod Calls
 pub mod EventCalls
 pub mod PcpuCalls
+pub mod Burials
 pub mod Refusals

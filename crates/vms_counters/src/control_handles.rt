@@ -12,7 +12,6 @@ ghost use Rattle.vms_counters.specs.Handles.{OnPages};
 ghost use Rattle.vms_kswapd.specs.Common.{CountsBlocks, NamesPassed};
 ghost use Rattle.vms_look.specs.Common.{HasSummed, SaysTruly, SumsTruly, TellsTruly};
 
-use crate::control_passes::ControlPasses;
 use crate::errors::CallError;
 use crate::shared::SharedCounters;
 use crate::{looks, rating};
@@ -20,6 +19,7 @@ use std::alloc::Global;
 use std::marker::Model;
 use std::sync::Arc;
 use vms_base::{CounterId, CpuId, Header, ItemId, PlaceId, WaterMark};
+use vms_burial::ControlPasses;
 use vms_calc::{Rule, Rules};
 use vms_calls::{Balance, OrderVerdict, Verdict};
 
@@ -31,20 +31,14 @@ pub struct ControlHandle {
 }
 
 impl Model for ControlHandle {
-    ghost use Rattle.std.specs.Prelude.{[]};
     ghost use Rattle.vms_counters.specs.Handles.{AnyHandle};
 
     ghost Value = { AnyHandle };
 
     ghost use Rattle.std.specs.Arc.{arc_value};
-    ghost use Rattle.vms_counters.specs.Handles.{IsControlHandle, handle_of};
+    ghost use Rattle.vms_counters.specs.Handles.{IsControlHandle, control_of};
 
-    ghost view = { λ h. record {
-      tables = (arc_value h.shared).tables;
-      page = handle_of (arc_value h.shared).header h.passes.page [];
-      event = record { pass = h.passes.event; volume = [] };
-      pcpu = record { pass = h.passes.pcpu; volume = [] };
-    } };
+    ghost view = { λ h. control_of (arc_value h.shared).header (arc_value h.shared).tables h.passes };
 
     ghost invariant = { λ h. IsControlHandle (arc_value h.shared).header (arc_value h.shared).tables h.passes };
 }

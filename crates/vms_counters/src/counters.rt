@@ -72,7 +72,26 @@ impl Counters {
         ensures { IfOk result (AreOpened header (N.answers rules.now.normal)) }
     {
         let world = start(alloc, &header, rules)?;
-        open_at(alloc, header, world)
+        Counters::open_at(alloc, header, world)
+    }
+
+    /// Counters that begin with a world of the header: with what it counts, its thresholds, and the CPUs online, dead
+    /// and absent as they are there. Their words are taken here.
+    pub fn open_at(alloc: Global, header: Header, world: World) -> Result<Counters, Memory>
+        requires valid { IsHeader header }
+        requires world { IsWorldOf header world }
+        ensures { IfOk result (AreOpenedAt header world) }
+    {
+        let (tables, mains) = Tables::make(alloc, &header, &world)?;
+        let volumes = first_volumes(alloc, &header)?;
+        let shared = Arc::new(alloc, SharedCounters { header, tables })?;
+        Ok(Counters {
+            shared,
+            mains,
+            volumes,
+            control: true,
+            last: world,
+        })
     }
 
     /// The header that the counters were opened with.
@@ -207,24 +226,6 @@ fn take_kept(volumes: &mut Vec<Option<CpuVolumes>>, at: usize) -> CpuVolumes
         unreachable!();
     };
     volume
-}
-
-/// Counters that begin with this world.
-fn open_at(alloc: Global, header: Header, world: World) -> Result<Counters, Memory>
-    requires valid { IsHeader header }
-    requires world { IsWorldOf header world }
-    ensures { IfOk result (AreOpenedAt header world) }
-{
-    let (tables, mains) = Tables::make(alloc, &header, &world)?;
-    let volumes = first_volumes(alloc, &header)?;
-    let shared = Arc::new(alloc, SharedCounters { header, tables })?;
-    Ok(Counters {
-        shared,
-        mains,
-        volumes,
-        control: true,
-        last: world,
-    })
 }
 
 /// No CPU has changed anything.

@@ -59,3 +59,17 @@ pub enum CallError {
     #[error("others hold the counter's lock")]
     Held,
 }
+
+/// Why a CPU wasn't buried.
+#[derive(Clone, Copy, Debug, PartialEq, Eq, thiserror::Error)]
+pub enum BuryError {
+    /// The layout has no such CPU.
+    #[error("there is no CPU {0}")]
+    NoCpu(u32),
+    /// The CPU is online or absent.
+    #[error("CPU {0} isn't dead")]
+    NotDead(u32),
+    /// A threshold or a mark was set 2,000,000 times.
+    #[error("thresholds were set too often")]
+    TooOften,
+}

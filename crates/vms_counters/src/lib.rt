@@ -3,9 +3,9 @@
 //! below need.
 #![tactic(auto)]
 
+mod burying;
 mod closing;
 mod control_handles;
-mod control_passes;
 mod counters;
 mod errors;
 mod event_calls;
@@ -19,5 +19,5 @@ mod shared;
 pub use closing::Closed;
 pub use control_handles::ControlHandle;
 pub use counters::Counters;
-pub use errors::{BeginError, CallError};
+pub use errors::{BeginError, BuryError, CallError};
 pub use handles::Handle;

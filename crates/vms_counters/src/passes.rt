@@ -1,13 +1,14 @@
 ghost use Rattle.std.specs.Prelude.{◌≡◌, None, Some};
 ghost use Rattle.vms_core.specs.Own.{CarriesNothing};
-ghost use Rattle.vms_counters.specs.Handles.{IsBetweenCalls, control_passes_of, volumes_in};
+ghost use Rattle.vms_burial.specs.Common.{passes_of as control_passes_of};
+ghost use Rattle.vms_counters.specs.Handles.{IsBetweenCalls, volumes_in};
 ghost use Rattle.vms_counters.specs.Opened.{AreFree, BeginsPasses, EndsPasses, MayBegin};
 ghost use Rattle.vms_event.specs.Common.{IsCpuPass};
 ghost use Rattle.vms_tables.specs.Common.{AreFrom, mains_of, passes_of};
 ghost use Rattle.vms_world.specs.Common.{own};
 
-use crate::control_passes::ControlPasses;
 use vms_base::{CpuId, CpuVolumes};
+use vms_burial::ControlPasses;
 use vms_tables::{CpuPasses, MainPasses, Tables};
 
 // The passes of a handle in the three tables, which begin together and end together.

@@ -14,7 +14,7 @@ use vms_calls::Balance;
 use vms_words::ControlPass;
 
 /// How often a threshold or a mark may be set.
-const MOST_SETS: u32 = 2_000_000;
+pub(crate) const MOST_SETS: u32 = 2_000_000;
 
 /// Sets the pressure thresholds of a node's zones.
 pub(crate) fn set_pressure<N: Rule, P: Rule>(

@@ -1,7 +1,9 @@
-//! Judges a long history of event counters, page counters or percpu counters by registers, and writes the verdict.
+//! Judges a long history of event counters, page counters, percpu counters or groups by registers, and writes the
+//! verdict.
 #![tactic(auto)]
 
 mod events;
+mod groups;
 mod pages;
 mod percpu;
 
@@ -18,7 +20,7 @@ use vms_registers::judge;
 /// How many CPUs the machine has, each with a pass.
 pub(crate) const CPUS: u32 = 64;
 
-const USAGE: &str = "usage: vms_judge_bench events|pages|percpu EVENTS";
+const USAGE: &str = "usage: vms_judge_bench events|pages|percpu|groups EVENTS";
 
 fn main(rt: HostRuntime) -> Result<()> {
     let words: Vec<String> = env::args(&rt)?.skip(1).collect(rt.alloc())?;
@@ -30,6 +32,7 @@ fn main(rt: HostRuntime) -> Result<()> {
         "events" => judge_events(rt.alloc(), count)?,
         "pages" => judge_pages(rt.alloc(), count)?,
         "percpu" => judge_percpu(rt.alloc(), count)?,
+        "groups" => judge_groups(rt.alloc(), count)?,
         _ => bail!("{USAGE}"),
     };
     println!(rt; "{count} events between the first and the last passes: {verdict:?}")?;
@@ -52,4 +55,10 @@ fn judge_percpu(alloc: Global, count: u32) -> Result<Verdict> {
     let facts = percpu::facts(alloc)?;
     let events = percpu::history(alloc, count)?;
     Ok(judge::<PcpuRegisters>(alloc, &facts, events.as_slice())?)
+}
+
+fn judge_groups(alloc: Global, count: u32) -> Result<Verdict> {
+    let facts = groups::facts(alloc)?;
+    let events = groups::history(alloc, count)?;
+    Ok(vms_group_registers::judge(alloc, &facts, events.as_slice())?)
 }

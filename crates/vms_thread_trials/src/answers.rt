@@ -1,4 +1,4 @@
-ghost use Rattle.vms_calls.specs.Common.{IsThresholdRule};
+ghost use Rattle.vms_world.specs.Common.{IsThresholdRule};
 
 use crate::machines::read_header;
 use std::alloc::Global;

@@ -1,7 +1,7 @@
 ghost use Rattle.std.specs.Prelude.{◌≡◌, IfOk};
-ghost use Rattle.vms_calls.specs.Common.{IsThresholdRule};
+ghost use Rattle.vms_world.specs.Common.{IsThresholdRule};
 
-use crate::machines::read_header;
+use crate::machines::{closes, read_header};
 use std::alloc::Global;
 use std::sync::Wait;
 use std::test::Fail;
@@ -191,20 +191,6 @@ fn totals_of<R: Threads + Wait + Sync, N: Rule + Sync, P: Rule + Sync>(
     counters.end(first);
     counters.end(second);
     found
-}
-
-/// Whether the counters close, which they do where no handle is out.
-fn closes(counters: Counters) -> bool {
-    match counters.close() {
-        Ok(closed) => {
-            drop(closed);
-            true
-        }
-        Err(open) => {
-            drop(open);
-            false
-        }
-    }
 }
 
 /// The totals of counters with thresholds by these rules, which close then.

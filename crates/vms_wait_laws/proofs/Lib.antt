@@ -1,2 +1,3 @@
 pub mod InsidePhases
 pub mod AskingLines
+pub mod AskingGroups

@@ -8,4 +8,7 @@ mod waits;
 
 pub use orders::texts_print_in_order;
 pub use texts::OrderedTexts;
-pub use waits::{bodies_wait_inside_phases, texts_wait_inside_phases, traces_wait_inside_phases};
+pub use waits::{
+    bodies_wait_inside_phases, groups_wait_inside_phases, texts_wait_inside_phases,
+    traces_wait_inside_phases,
+};

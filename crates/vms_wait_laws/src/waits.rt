@@ -1,4 +1,5 @@
 ghost use Rattle.vms_command.specs.Common.{following};
+ghost use Rattle.vms_groups.specs.Common.{groups_texts};
 ghost use Rattle.vms_replay.specs.Common.{replaying};
 ghost use Rattle.vms_wait_laws.specs.Waits.{AskInsidePhases, WaitInsidePhases};
 
@@ -20,4 +21,9 @@ pub fn bodies_wait_inside_phases<B: Body>()
 /// The same of `replay` and `run`, whose lines do: between two phases all is printed that the lines above print.
 pub fn traces_wait_inside_phases<E: Engine>()
     ensures { WaitInsidePhases (following (replaying E.Makes)) }
+{}
+
+/// The same of `groups`: between two phases all is printed that the lines above print.
+pub fn groups_wait_inside_phases()
+    ensures { WaitInsidePhases groups_texts }
 {}

@@ -1,9 +1,9 @@
 -- The goals were that both additions may be made, and that nothing is carried after them.
-use Rattle.std.proofs.Common.{◌≡◌, ℤ, pos, w64, sym, ap, ◌∙◌, subst, arith}
+use Rattle.std.proofs.Common.{ℤ, w64, sym, subst, arith}
 use Rattle.std.proofs.lemmas.Int.{ints, to_z-of_z}
-use Rattle.vms_calls.specs.Common.{AddsToPlace, AddsToSystem, AddG, AddS, CarriesNothing, pages}
+use Rattle.vms_calls.specs.Common.{AddsToPlace, AddsToSystem, AddG, AddS, pages}
 use Rattle.vms_seats.specs.Common.{MadeOne}
-use Rattle.vms_bench.specs.Common.{Carries, own_of}
+use Rattle.vms_bench.specs.Common.{own_of}
 use Rattle.vms_bench.proofs.PageCalls.{adds-place, adds-system, carried-away, carried-none}
 use Rattle.vms_bench.proofs.changes.carry.Goals as goal
 

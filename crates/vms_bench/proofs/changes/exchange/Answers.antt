@@ -1,5 +1,5 @@
 -- The goals were what a miss leaves, and what the put carries.
-use Rattle.std.proofs.Common.{◌≡◌, ℤ, FitsSigned, w64, sym, subst}
+use Rattle.std.proofs.Common.{ℤ, FitsSigned, w64, sym, subst}
 use Rattle.std.proofs.lemmas.Int.{to_z-of_z}
 use Rattle.vms_calls.specs.Common.{Mod}
 use Rattle.vms_bench.specs.Common.{Carries, own_of}

@@ -1,8 +1,7 @@
 -- The goal was what the put carries.
-use Rattle.std.proofs.Common.{◌≡◌, ℤ, FitsSigned, w64, sym, subst}
+use Rattle.std.proofs.Common.{ℤ, FitsSigned, w64, sym, subst}
 use Rattle.std.proofs.lemmas.Int.{to_z-of_z}
 use Rattle.vms_calls.specs.Common.{Mod}
-use Rattle.vms_words.specs.Common.{HasPut}
 use Rattle.vms_bench.specs.Common.{Carries, own_of}
 use Rattle.vms_bench.proofs.PageCalls.{put-carries}
 use Rattle.vms_bench.proofs.changes.exchange_zeros.Goals as goal

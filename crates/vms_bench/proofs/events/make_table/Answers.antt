@@ -1,6 +1,5 @@
 -- The goals were that words of zeros are a base, and that its CPUs are online.
-use Rattle.std.proofs.Common.{◌≡◌, replicate, Some, sym, subst, ◌∙◌}
-use Rattle.vms_event_core.specs.declared.steps.EventFacts.{EventFacts}
+use Rattle.std.proofs.Common.{sym, subst, ◌∙◌}
 use Rattle.vms_bench.specs.Common.{AreOnline}
 use Rattle.vms_bench.proofs.EventBases.{IsBase-zeros, AreOnline-all}
 use Rattle.vms_bench.proofs.events.make_table.Goals as goal

@@ -1,5 +1,5 @@
 -- The goal was that the pass's CPU is one of the layout.
-use Rattle.std.proofs.Common.{◌≡◌, Some, sym, subst}
+use Rattle.std.proofs.Common.{◌≡◌, sym, subst}
 use Rattle.vms_calls.specs.Common.{CpuId, Shape, IsCpu}
 use Rattle.vms_bench.proofs.pages.change_often.Goals as goal
 

@@ -1,8 +1,8 @@
-use Rattle.std.proofs.Common.{◌*◌, All}
+use Rattle.std.proofs.Common.{All}
 use Rattle.vms_seats.specs.Common.{IsFrom}
-use Rattle.vms_bench_base.specs.Common.{IsReady, IsUnused}
+use Rattle.vms_bench_base.specs.Common.{IsReady, IsUnused, cpu_number}
 use Rattle.vms_bench_base.proofs.tables.begin_passes.Given as goal
 
 abbrev pub invariant-loop-thread : goal.invariant-loop-thread
 invariant-loop-thread l =
-    IsFrom l.main l.table × IsUnused (16 * l.thread) l.main.seen × All (IsReady l.table) l.passes.items
+    IsFrom l.main l.table × IsUnused (cpu_number l.distance l.thread) l.main.seen × All (IsReady l.table) l.passes.items

@@ -1,7 +1,7 @@
 -- What the counters keep once a control handle has begun.
 use Rattle.std.specs.Arc.{arc_value}
 use Rattle.vms_tables.specs.Common.{mains_of}
-use Rattle.vms_counters.specs.Handles.{control_passes_of}
+use Rattle.vms_burial.specs.Common.{passes_of as control_passes_of}
 use Rattle.vms_counters.proofs.ThreeTables.{kept-begun_control}
 use Rattle.vms_counters.proofs.counters.Counters.begin_control.Goals as goal
 

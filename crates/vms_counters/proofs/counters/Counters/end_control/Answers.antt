@@ -3,7 +3,8 @@ use Rattle.std.proofs.Common.{ap, sym, ◌∙◌}
 use Rattle.std.specs.Arc.{arc_value}
 use Rattle.vms_tables.specs.Common.{mains_of}
 use Rattle.vms_tables.specs.declared.tables.Tables.{Tables}
-use Rattle.vms_counters.specs.Handles.{AnyHandle, control_passes_of}
+use Rattle.vms_burial.specs.Common.{passes_of as control_passes_of}
+use Rattle.vms_counters.specs.Handles.{AnyHandle}
 use Rattle.vms_counters.specs.Opened.{Opened}
 use Rattle.vms_counters.proofs.ThreeTables.{kept-ended_control}
 use Rattle.vms_counters.proofs.counters.Counters.end_control.Goals as goal

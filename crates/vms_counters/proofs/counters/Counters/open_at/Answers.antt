@@ -5,7 +5,7 @@ use Rattle.vms_tables.specs.Common.{mains_of}
 use Rattle.vms_counters.specs.declared.shared.SharedCounters.{SharedCounters}
 use Rattle.vms_counters.specs.Opened.{AreCounters}
 use Rattle.vms_counters.proofs.ThreeTables.{kept-opened}
-use Rattle.vms_counters.proofs.counters.open_at.Goals as goal
+use Rattle.vms_counters.proofs.counters.Counters.open_at.Goals as goal
 
 pub invariant_of-result : goal.invariant_of-result
 invariant_of-result c =
