@@ -90,7 +90,7 @@ def from_socket(words, packets, fails=False):
             try:
                 for packet in packets:
                     ours.sendall(packet)
-            except BrokenPipeError:
+            except (BrokenPipeError, ConnectionResetError):
                 pass
         process.wait(timeout=60)
         file.seek(0)
