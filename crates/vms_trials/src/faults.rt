@@ -230,8 +230,8 @@ static ROWS: [Row<'static>; 14] = [
         output: &[
             "usage: check | replay | run | gen SEED CPUS LINES | groups | record | certify\n",
         ],
-        least: 59,
-        most: 59,
+        least: 78,
+        most: 78,
     },
 ];
 
