@@ -66,18 +66,19 @@ LEAVES = [
      r"vms_pcpu_core/"),
     ("Trees of groups", "The state of a tree of groups, its steps, and what each asks.", r"vms_group_core/"),
     ("Group lines", "How the header and the lines of a trace of groups are read and judged.", r"vms_group_lines/"),
-    ("Certifying", "Line by line `certify` goes through a header, a trace and the history after it, and gives each line of "
-     "the history a verdict.", r"vms_certifying/(Certifying|HistoryLines|JobStates|Judging|Printing)"),
-    ("Copies of traces", "Line by line `record` copies a trace as `check` writes it, without remarks, and keeps its parts: "
-     "the lane lines from each boundary line on.", r"vms_trace_parts/"),
-    ("Recorded histories", "Of each phase `record` writes the events of file order: a pass begins for each lane, the lines "
-     "follow one another and meet no other pass, and the passes end.", r"vms_recorded/|vms_recording/|vms_phase_lines/"),
-    ("Lines of a history", "A line of a history begins a phase, or is one event in its one spelling, or is ignored; any "
-     "other is out of form.", r"vms_written_lines/"),
+    ("Certifying", "Line by line `certify` goes through a header, a trace and the history after it, and gives each line "
+     "of the history a verdict.", r"vms_certifying/(Certifying|HistoryLines|JobStates|Judging|Printing)"),
+    ("Copies of traces", "Line by line `record` copies a trace as `check` writes it, without remarks, and keeps its "
+     "parts: the lane lines from each boundary line on.", r"vms_trace_parts/"),
+    ("Recorded histories", "Of each phase `record` writes the events of file order: a pass begins for each lane, the "
+     "lines follow one another and meet no other pass, and the passes end.",
+     r"vms_recorded/|vms_recording/|vms_phase_lines/"),
+    ("Lines of a history", "A line of a history begins a phase, or is one event in its one spelling, or is ignored; "
+     "any other is out of form.", r"vms_written_lines/"),
     ("Lines at fault", "Which line of a history is the first at fault, and for which of four causes.",
      r"vms_history_checks/|vms_phase_checks/"),
-    ("Texts that wait", "What a line prints may wait for the outcome of its phase; texts are printed in the order of their "
-     "lines.", r"vms_stream/(Waiting|Orders)"),
+    ("Texts that wait", "What a line prints may wait for the outcome of its phase; texts are printed in the order of "
+     "their lines.", r"vms_stream/(Waiting|Orders)"),
     ("Passes", "A pass begins and ends once, owns a CPU or none, and acts while it lives; a history is complete where no "
      "pass lives.", r"vms_history/Passes"),
     ("Boundaries", "What a line between two phases makes of the world: the first world, folds of all, CPUs that go down "

@@ -4,8 +4,8 @@
     bench/rows.py [NAME]
 
 The programs are bench/check.rs, bench/replay.rs, bench/run.rs, bench/groups.rs, bench/record.rs and bench/certify.rs,
-or the one that VOZHKELL names, called with the word of the command. With a NAME they get the rows of that name alone, and the whole
-difference is shown. The status is 1 if an answer differs, and 2 if there is no such row.
+or the one that VOZHKELL names, called with the word of the command. With a NAME they get the rows of that name alone,
+and the whole difference is shown. The status is 1 if an answer differs, and 2 if there is no such row.
 
 In bench/rows there are
 - NAME.vmtrace with NAME.out, which `replay` and `run` print of it, or with NAME.check, which `check` prints, or both. A
