@@ -1,4 +1,4 @@
--- What holds of the plan at a cursor, from the position at which its call stands.
+-- For other crates too: what holds of the plan at a cursor, from the position at which its call stands.
 use Rattle.std.proofs.Common.{◌≡◌, ℕ, [], ◌∷◌, sym, subst}
 use Rattle.std.specs.Prelude.{Option, Some, None, IfSome}
 use Rattle.vms_calls.specs.Common.{CpuId, Header, History, State, Step, ZoneSize, after, facts_of}

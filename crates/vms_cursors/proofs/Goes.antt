@@ -1,4 +1,4 @@
--- How a cursor goes on along a plan that waits for a step.
+-- For other crates too: how a cursor goes on along a plan that waits for a step.
 use Rattle.std.proofs.Common.{◌≡◌, [], ◌∷◌, subst}
 use Rattle.vms_calls.specs.Common.{Step}
 use Rattle.vms_plans.specs.declared.due_steps.DueStep.{DueStep}

@@ -1,4 +1,4 @@
--- What is said of a position is said of another of the same plan.
+-- For other crates too: what is said of a position is said of another of the same plan.
 use Rattle.std.proofs.Common.{◌≡◌, ℕ, List, [], ◌∷◌, subst}
 use Rattle.std.specs.Prelude.{IfSome, None, Option, Some}
 use Rattle.vms_calls.specs.Common.{History, Shape, State, Step, ZoneSize, after}

@@ -1,4 +1,4 @@
--- What the readings of steps say of them.
+-- For other crates too: what the readings of steps say of them.
 use Rattle.std.proofs.Common.{◌≡◌, ℕ, nat_eq, ◌&&◌, Bool, true, false, ℤ, List, refl, sym, ap, subst, ◌∙◌}
 use Rattle.std.proofs.Common.{if◌then◌else◌}
 use Rattle.std.proofs.Math.Dec.{T_prop}

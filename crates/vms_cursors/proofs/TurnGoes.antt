@@ -1,4 +1,4 @@
--- How a turn of kswapd goes on from its parts.
+-- For other crates too: how a turn of kswapd goes on from its parts.
 use Rattle.std.proofs.Common.{◌≡◌, ℕ, suc, ◌-◌, ◌≤◌, List, [], ◌∷◌, ◌++◌, refl, sym, ap, subst, arith}
 use Rattle.std.specs.Prelude.{IfSome, None, Option, Some}
 use Rattle.vms_calls.specs.Common.{CpuState, Facts, Header, History, PlaceId, State, Step, ZoneSize, after, facts_of}

@@ -44,13 +44,11 @@ impl LaneWalk for LineWalk {
         fitting_lines_are_page_acts();
         walks_go_along::<ExactRules>();
         let peaks = ShownPeaks { registers };
-        match self
-            .walk
-            .next::<ExactRules, ShownPeaks<'_>>(header, &peaks, lane, acts, *step)
-        {
-            Some(walk) => Some(LineWalk { walk }),
-            None => None,
+        let mut walk = self.walk;
+        if walk.go::<ExactRules, ShownPeaks<'_>>(header, &peaks, lane, acts, step) {
+            return Some(LineWalk { walk });
         }
+        None
     }
 
     fn is_done(

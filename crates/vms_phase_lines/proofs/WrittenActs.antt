@@ -39,15 +39,14 @@ module _ (header : Header) (base : State) (lane : Lane) (p : ℕ) where
     HasWritten-none may = record { steps = []; won = All-nil HasWon; goes_on = may; lines = sym (append-nil out) }
 
     -- a step more
-    pub HasWritten-more : (mid last : List ℕ) → HasWritten header base lane p acts h pages walk out mid
+    pub HasWritten-more : (mid last : List ℕ) (written : HasWritten header base lane p acts h pages walk out mid)
         → (pages' : WrittenPages) (later : Walk) (step : Step) → HasWon step → last ≡ mid ++ event_line p (widened step)
-        → ((g : History) → MayGoOn header base lane p acts g pages walk
-        → MayGoOn header base lane p acts (record { caller = p; step = step } ∷ g) pages' later)
+        → MayGoOn header base lane p acts (record { caller = p; step = step } ∷ after p written.steps h) pages' later
         → HasWritten header base lane p acts h pages' later out last
     HasWritten-more mid last written pages' later step won line on = record {
       steps = written.steps ++ step ∷ [];
       won = All-append HasWon written.steps (step ∷ []) written.won (All-cons HasWon step [] won (All-nil HasWon));
       goes_on = subst (λ (g : History). MayGoOn header base lane p acts g pages' later)
-          (sym (after-steps p written.steps (step ∷ []) h)) (on (after p written.steps h) written.goes_on);
+          (sym (after-steps p written.steps (step ∷ []) h)) on;
       lines = lines-after out mid last p written.steps step written.lines line;
     }

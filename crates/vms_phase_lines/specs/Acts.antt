@@ -1,17 +1,19 @@
 -- What a lane's pass writes of its acts, under the kernel's rules of thresholds.
 use Rattle.std.specs.Prelude.{◌≡◌, ℕ, List, [], ◌++◌, All}
 use Rattle.vms_world.specs.Common.{Act, HasWon, Header, Lane, PageSteps, State, Step, after, facts_of}
-use Rattle.vms_world.specs.Common.{normal_threshold_of, pressure_threshold_of}
+use Rattle.vms_world.specs.Common.{normal_threshold_of, own, pressure_threshold_of}
 use Rattle.vms_core.specs.Pages.{History}
 use Rattle.vms_own_acts.specs.Common.{IsHistoryFor}
 use Rattle.vms_walks.specs.Rules.{ByFormula}
-use Rattle.vms_walks.specs.Walks.{StandsAt}
+use Rattle.vms_walks.specs.Walks.{IsDueAt, StandsAt}
+use Rattle.vms_walks.specs.declared.open_calls.DueCall.{DueCall}
 use Rattle.vms_walks.specs.declared.walks.Walk.{Walk}
 use Rattle.vms_phase_lines.specs.declared.pages.WrittenPages.{WrittenPages}
 use Rattle.vms_phase_lines.specs.Lines.{event_lines}
 use Rattle.vms_phase_lines.specs.Pages.{AreAfter}
 
--- the steps that an act may make by a lane's pass of this number, where it begins in a history of a phase from this state
+-- the steps that an act may make by a lane's pass of this number, where it begins in a history of a phase from this
+-- state
 abbrev pub lane_makes : Header → State → Lane → ℕ → Act → History → List Step → Type 0
 lane_makes header base = PageSteps header base (ByFormula pressure_threshold_of) (ByFormula normal_threshold_of)
 
@@ -26,6 +28,14 @@ pub record MayGoOn (header : Header) (base : State) (lane : Lane) (p : ℕ) (act
   pub are : AreAfter (facts_of header base) h pages
   pub is_for : IsHistoryFor header base lane p h
   pub stands : StandsIn header base lane p acts walk h
+
+-- the same where the step of this call is due
+pub record MayMake (header : Header) (base : State) (lane : Lane) (p : ℕ) (acts : List Act) (h : History)
+    (pages : WrittenPages) (call : DueCall) : Type 0 where
+  pub are : AreAfter (facts_of header base) h pages
+  pub is_for : IsHistoryFor header base lane p h
+  pub due : IsDueAt header base (ByFormula pressure_threshold_of) (ByFormula normal_threshold_of) lane p acts call
+      (own h p)
 
 -- it has made steps, in which it met no other caller, and their lines are written
 pub record HasWritten (header : Header) (base : State) (lane : Lane) (p : ℕ) (acts : List Act) (h : History)

@@ -5,3 +5,4 @@ pub mod WalkSteps
 pub mod WalkAlong
 pub mod OpenedCalls
 pub mod LineActs
+pub mod StepsOn

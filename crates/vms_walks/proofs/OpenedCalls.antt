@@ -8,7 +8,7 @@ use Rattle.vms_calls.specs.declared.page_calls.PageAnswer.{PageAnswer}
 use Rattle.vms_calls.specs.declared.page_calls.PageCall.{PageCall}
 use Rattle.vms_plans.specs.Common.{PlansAreCalls, Runs, plan_of}
 use Rattle.vms_cursors.specs.Calls.{cursor_at}
-use Rattle.vms_cursors.specs.Cursors.{IsSame}
+use Rattle.vms_cursors.specs.Cursors.{IsSame, IsUnended}
 use Rattle.vms_cursors.specs.declared.cursors.Cursor.{Cursor}
 use Rattle.vms_text.specs.declared.acts.Act.TheVariants.{Mod}
 use Rattle.vms_world.specs.Common.{Act, Header, IsLayout, Lane, PageSteps, State, ZoneSize, owner_of}
@@ -16,7 +16,7 @@ use Rattle.vms_own_acts.specs.Common.{MakesInRow}
 use Rattle.vms_own_acts.proofs.SomeSteps.{call-some}
 use Rattle.vms_own_acts.proofs.Ways.{way-begins, way-ended, way-same}
 use Rattle.vms_walks.specs.Calling.{CallsNext, act_at}
-use Rattle.vms_walks.specs.Walks.{IsOpenAt, StandsBy}
+use Rattle.vms_walks.specs.Walks.{StandsBy}
 use Rattle.vms_walks.proofs.Callings.{rows-passed}
 
 module _ (header : Header) (base : State) (pressure normal : ZoneSize → ℕ → ℕ → Type 0) (lane : Lane) (p : ℕ)
@@ -31,16 +31,16 @@ module _ (header : Header) (base : State) (pressure normal : ZoneSize → ℕ �
       (cursor_at header base p pressure normal mine first)
       → IsSame (cursor_at header base p pressure normal mine first)
       (cursor_at header base p pressure normal mine cursor)
-      → IsOpenAt header base pressure normal lane p acts (record { begun = n + 1; cursor = cursor }) mine
+      → StandsBy header base pressure normal lane p acts (n + 1) (Some cursor) mine
+      × IsUnended (cursor_at header base p pressure normal mine cursor)
   opens-next plans layout from n call first cursor mine next row begins settles =
       let below : n < length acts = next.below in
       let most : n ≤ length acts = omega arith in
       let made : Row (take n acts) mine =
       rows-passed header base pressure normal lane p acts mine from n next.least most next.none_before row in
       let parts : take (n + 1) acts ≡ take n acts ++ act_at acts n ∷ [] =
-      ap (λ k. take k acts) (add-one n) ∙ take-suc acts n (Mod (record { number = 0 }) (pos 0)) below in
-      record {
-        stands = (
+      ap (λ k. take k acts) (add-one n) ∙ take-suc acts n (Mod (record { number = 0 }) (pos 0)) below in (
+        (
           take n acts,
           act_at acts n,
           parts,
@@ -50,10 +50,10 @@ module _ (header : Header) (base : State) (pressure normal : ZoneSize → ℕ �
               settles
               (way-begins header base pressure normal lane p plans (take n acts) (act_at acts n) call
               (cursor_at header base p pressure normal mine first) mine next.calls made begins),
-        );
-        unended = λ told run. call-some header layout base pressure normal call (owner_of lane) p mine told
-            ((begins [] told).1 ((settles [] told).1 run));
-      }
+        ),
+        λ told run. call-some header layout base pressure normal call (owner_of lane) p mine told
+            ((begins [] told).1 ((settles [] told).1 run)),
+      )
 
   -- another cursor of the same plan
   pub stands-same : (begun : ℕ) (cursor other : Cursor) (mine : History)

@@ -2,14 +2,11 @@
 use Rattle.std.proofs.Common.{◌≡◌, ℕ, List, [], ◌∷◌, ◌++◌, drop, take, refl, sym, ap, subst, ◌∙◌, append_assoc}
 use Rattle.std.proofs.Common.{append-nil}
 use Rattle.std.proofs.lemmas.List.{take-append-drop}
-use Rattle.std.specs.Prelude.{IfSome, None, Option, Some}
 use Rattle.vms_history.proofs.Common.{after-steps, own-mine}
 use Rattle.vms_world.specs.Common.{Step, Act, Header, Lane, PageSteps, State, ZoneSize, after, own}
 use Rattle.vms_core.specs.Pages.{History}
 use Rattle.vms_calls.specs.declared.page_calls.PageAnswer.{PageAnswer}
-use Rattle.vms_plans.specs.declared.due_steps.DueStep.{DueStep}
-use Rattle.vms_plans.specs.Common.{Fits, Plan, PlansAreCalls, Runs}
-use Rattle.vms_cursors.specs.Cursors.{IsDue}
+use Rattle.vms_plans.specs.Common.{Plan, PlansAreCalls, Runs}
 use Rattle.vms_written.specs.Common.{GoesAlong}
 use Rattle.vms_own_acts.specs.Common.{Along, IsFunction, IsHistoryFor, IsUnderWay, MakesInRow}
 use Rattle.vms_own_acts.proofs.Acts.{one-act}
@@ -86,12 +83,3 @@ module _ (header : Header) (base : State) (pressure normal : ZoneSize → ℕ �
       let over_is = row-over header base pressure normal lane p plans is_p is_n made next plan mine at ends
       (drop begun acts) front in
       unended over_is.0 over_is.1
-
--- what a cursor names is the step that goes on
-pub fits-due : (May Goes : Step → Type 0) (plan : Plan PageAnswer) (due : Option DueStep)
-    → IfSome due (λ d. IsDue plan d)
-    → ((step : Step) → May step → Goes step → (ks : List Step) × (told : PageAnswer) × Runs plan (step ∷ ks) told)
-    → IfSome due (λ d. (step : Step) → May step → Goes step → Fits d step)
-fits-due May Goes plan None is goes = (tt {0})
-fits-due May Goes plan (Some d) is goes = λ step may along.
-    let run = goes step may along in is.0 step run.0 run.1 run.2

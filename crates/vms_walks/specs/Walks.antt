@@ -1,13 +1,12 @@
 -- Where a walk stands in the acts of its lane.
 use Rattle.std.specs.Prelude.{◌≡◌, ℕ, ◌≤◌, false, List, [], ◌∷◌, ◌++◌, length, take, Option, Some, None, IfSome}
 use Rattle.vms_core.specs.Pages.{History}
-use Rattle.vms_calls.specs.declared.page_calls.PageAnswer.{PageAnswer}
-use Rattle.vms_plans.specs.Common.{Runs}
 use Rattle.vms_cursors.specs.Calls.{IsAffordable, IsCallWithin, IsReady, IsWithin, cursor_at, may_ask}
+use Rattle.vms_cursors.specs.Cursors.{IsDue}
 use Rattle.vms_cursors.specs.declared.cursors.Cursor.{Cursor}
 use Rattle.vms_world.specs.Common.{Act, Control, Cpu, Header, Lane, PageSteps, Shape, State, ZoneSize, own, page_call}
 use Rattle.vms_own_acts.specs.Common.{IsUnderWay, MakesInRow}
-use Rattle.vms_walks.specs.declared.open_calls.OpenCall.{OpenCall}
+use Rattle.vms_walks.specs.declared.open_calls.DueCall.{DueCall}
 use Rattle.vms_walks.specs.declared.walks.Walk.{Walk}
 
 -- the call of an act, if it makes one on the page counters, is on a counter, a zone or a node of the layout, and a
@@ -29,10 +28,10 @@ module _ (header : Header) (base : State) (pressure normal : ZoneSize → ℕ �
   abbrev pub StandsAt : Walk → History → Type 0
   StandsAt walk h = StandsBy walk.begun walk.under_way (own h p)
 
-  -- the call is the last that has begun, and it hasn't ended
-  pub record IsOpenAt (call : OpenCall) (mine : History) : Type 0 where
+  -- the call is the last that has begun, and its step is due
+  pub record IsDueAt (call : DueCall) (mine : History) : Type 0 where
     pub stands : StandsBy call.begun (Some call.cursor) mine
-    pub unended : (answer : PageAnswer) → Runs (cursor_at header base p pressure normal mine call.cursor) [] answer → ⊥
+    pub due : IsDue (cursor_at header base p pressure normal mine call.cursor) call.due
 
 -- the lane of a CPU makes no call that asks rules
 abbrev pub IsOfLane : Lane → Cursor → Type 0
@@ -45,7 +44,7 @@ pub record IsWalkWithin (shape : Shape) (lane : Lane) (acts : List Act) (walk : 
   pub under_way : IfSome walk.under_way (λ cursor. IsOfLane lane cursor × IsWithin shape cursor)
 
 -- the same of a call at which no rule is asked
-pub record IsOpenWithin (shape : Shape) (lane : Lane) (acts : List Act) (call : OpenCall) : Type 0 where
+pub record IsDueWithin (shape : Shape) (lane : Lane) (acts : List Act) (call : DueCall) : Type 0 where
   pub begun : call.begun ≤ length acts
   pub of_lane : IsOfLane lane call.cursor
   pub within : IsWithin shape call.cursor

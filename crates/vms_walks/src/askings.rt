@@ -14,19 +14,19 @@ pub(crate) struct Asking {
 }
 
 /// What the rules are asked for where a call stands: none where no rule is asked.
-pub(crate) fn rules_asked(cursor: Cursor) -> Option<Asking>
-    ensures { result ≡ asking_of cursor }
+pub(crate) fn rules_asked(cursor: &Cursor) -> Option<Asking>
+    ensures { result ≡ asking_of cursor.now }
 {
     match cursor {
-        Cursor::Rates(call, at) => asked_at(call, at),
+        Cursor::Rates(call, at) => asked_at(*call, at),
         Cursor::Bury(_, at) => asked_of_burial(at),
-        Cursor::Turn(turn, at) => asked_of_turn(turn, at),
+        Cursor::Turn(turn, at) => asked_of_turn(*turn, at),
         _ => None,
     }
 }
 
-fn asked_of_burial(at: BurialPosition) -> Option<Asking>
-    ensures { result ≡ asking_of_burial at }
+fn asked_of_burial(at: &BurialPosition) -> Option<Asking>
+    ensures { result ≡ asking_of_burial at.now }
 {
     match at {
         BurialPosition::Folds(_) => None,
@@ -34,8 +34,8 @@ fn asked_of_burial(at: BurialPosition) -> Option<Asking>
     }
 }
 
-fn asked_of_turn(turn: Turn, at: TurnPosition) -> Option<Asking>
-    ensures { result ≡ asking_of_turn turn at }
+fn asked_of_turn(turn: Turn, at: &TurnPosition) -> Option<Asking>
+    ensures { result ≡ asking_of_turn turn at.now }
 {
     match at {
         TurnPosition::Presses(at) => asked_at(RatingCall::Pressure(turn.node), at),
@@ -44,11 +44,15 @@ fn asked_of_turn(turn: Turn, at: TurnPosition) -> Option<Asking>
     }
 }
 
-fn asked_at(call: RatingCall, at: RatingPosition) -> Option<Asking>
-    ensures { result ≡ asking_at call at }
+fn asked_at(call: RatingCall, at: &RatingPosition) -> Option<Asking>
+    ensures { result ≡ asking_at call at.now }
 {
     match at {
-        RatingPosition::Asks(seen, zone, _) => Some(Asking { call, seen, zone }),
+        RatingPosition::Asks(seen, zone, _) => Some(Asking {
+            call,
+            seen: *seen,
+            zone: *zone,
+        }),
         _ => None,
     }
 }

@@ -32,7 +32,7 @@ pub(crate) fn settled<R: RuleFunctions, K: ZonePeaks>(
     ensures within { IsWithin header.now.layout result }
     ensures of_lane { (lane : Lane) → IsOfLane lane cursor → IsOfLane lane result }
 {
-    match rules_asked(cursor) {
+    match rules_asked(&cursor) {
         Some(asking) => answered::<R, K>(cursor, asking, header, peaks),
         None => cursor,
     }

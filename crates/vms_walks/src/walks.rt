@@ -1,18 +1,20 @@
-ghost use Rattle.std.specs.Prelude.{◌≡◌, ℕ, ◌↔◌, List, [], ◌∷◌, All, IfSome, IsNone, IsTrue, Some};
+ghost use Rattle.std.specs.Prelude.{◌≡◌, ℕ, ◌↔◌, false, List, [], ◌∷◌, All, IfSome, IsNone, IsTrue, Some};
 ghost use Rattle.vms_core.specs.Pages.{History, IsLegal};
 ghost use Rattle.vms_plans.specs.Common.{Fits};
-ghost use Rattle.vms_world.specs.Common.{Act, Header, IsHeader, Lane, MakesActs, PageSteps, Shape, State, Step};
-ghost use Rattle.vms_world.specs.Common.{facts_of, own};
+ghost use Rattle.vms_world.specs.Common.{Act, Header, IsHeader, Lane, Lane as LaneOf, MakesActs, PageSteps, Shape};
+ghost use Rattle.vms_world.specs.Common.{State, Step, facts_of, own};
 ghost use Rattle.vms_written.specs.Common.{GoesAlong};
-ghost use Rattle.vms_own_acts.specs.Common.{IsHistoryFor, MakesInRow};
-ghost use Rattle.vms_walks.specs.Walks.{IsOpenAt, IsOpenWithin, IsPageAct, IsWalkWithin, StandsAt};
+ghost use Rattle.vms_own_acts.specs.Common.{IsHistoryFor};
+ghost use Rattle.vms_walks.specs.Walks.{IsDueAt, IsDueWithin, IsPageAct, IsWalkWithin, StandsAt};
 
-use crate::open_calls::{OpenCall, due_call, next_call};
+use crate::askings::rules_asked;
+use crate::open_calls::{DueCall, due_call, next_call};
 use crate::settling::settled;
 use crate::{RuleFunctions, ZonePeaks};
 use vms_base::Header;
 use vms_calls::ThresholdRules;
 use vms_core::Step;
+use vms_cursor_steps::{due_step, go_on};
 use vms_cursors::{Cursor, cursors_can_be_completed};
 use vms_plans::{DueStep, plans_are_the_calls};
 use vms_text::{Act, Lane};
@@ -70,16 +72,135 @@ impl Walk {
         ensures within { IfSome result (λ later. IsWalkWithin header.now.layout lane acts.now later) }
     {
         plans_are_the_calls::<R>();
-        cursors_can_be_completed::<R>();
-        match self.open::<R, K>(header, peaks, lane, acts) {
-            Some(call) => match call.cursor.next::<R>(header, step) {
-                Some(cursor) => Some(Walk {
-                    begun: call.begun,
-                    under_way: Some(cursor),
-                }),
-                None => None,
+        match self.under_way {
+            Some(cursor) => {
+                let cursor = settled::<R, K>(cursor, header, peaks);
+                match cursor.next::<R>(header, step) {
+                    Some(later) => Some(Walk {
+                        begun: self.begun,
+                        under_way: Some(later),
+                    }),
+                    None => self.next_of_due::<R, K>(header, peaks, lane, acts, step),
+                }
+            }
+            None => self.next_of_due::<R, K>(header, peaks, lane, acts, step),
+        }
+    }
+
+    /// Goes on by a step of the lane's pass, as `next` does, in place: whether the pass's own events with this one
+    /// begin the events of its lines. Where they don't, nothing changes.
+    pub fn go<R: RuleFunctions, K: ZonePeaks>(
+        &mut self,
+        header: &Header,
+        peaks: &K,
+        lane: Lane,
+        acts: &[Act],
+        step: &Step,
+    ) -> bool
+        requires header { IsHeader header.now }
+        requires acts { All (λ act. IsPageAct header.now.layout lane act) acts.now }
+        requires within { IsWalkWithin header.now.layout lane acts.now self.old }
+        requires kept { (base : State) × (h : History) × IsLegal (facts_of header.now base) h
+            × K.Keeps peaks.now (facts_of header.now base) h }
+        ensures goes { IsTrue result → (base : State) (p : ℕ) (h : History) →
+            IsHistoryFor header.now base lane p (record { caller = p; step = step.now } ∷ h) →
+            K.Keeps peaks.now (facts_of header.now base) h →
+            StandsAt header.now base R.pressure R.normal lane p acts.now self.old h →
+            StandsAt header.now base R.pressure R.normal lane p acts.now self.new
+            (record { caller = p; step = step.now } ∷ h) }
+        ensures stops { result ≡ false → (base : State) (p : ℕ) (h : History) →
+            IsHistoryFor header.now base lane p (record { caller = p; step = step.now } ∷ h) →
+            K.Keeps peaks.now (facts_of header.now base) h →
+            StandsAt header.now base R.pressure R.normal lane p acts.now self.old h →
+            ¬ GoesAlong (PageSteps header.now base R.pressure R.normal lane p) p acts.now
+            (record { caller = p; step = step.now } ∷ h) }
+        ensures same { result ≡ false → self.new ≡ self.old }
+        ensures within { IsWalkWithin header.now.layout lane acts.now self.new }
+    {
+        if self.go_under_way::<R>(header, lane, acts, step) {
+            return true;
+        }
+        match self.next::<R, K>(header, peaks, lane, acts, *step) {
+            Some(later) => {
+                *self = later;
+                true
+            }
+            None => false,
+        }
+    }
+
+    /// Goes on by a step of the call under way, where it does so in place: whether it went on. Where it didn't, nothing
+    /// changes.
+    fn go_under_way<R: RuleFunctions>(
+        &mut self,
+        header: &Header,
+        lane: Lane,
+        acts: &[Act],
+        step: &Step,
+    ) -> bool
+        requires header { IsHeader header.now }
+        requires within { IsWalkWithin header.now.layout lane acts.now self.old }
+        ensures goes { IsTrue result → (base : State) (p : ℕ) (h : History) →
+            StandsAt header.now base R.pressure R.normal lane p acts.now self.old h →
+            StandsAt header.now base R.pressure R.normal lane p acts.now self.new
+            (record { caller = p; step = step.now } ∷ h) }
+        ensures same { result ≡ false → self.new ≡ self.old }
+        ensures within { IsWalkWithin header.now.layout lane acts.now self.new }
+    {
+        plans_are_the_calls::<R>();
+        let Some(mut cursor) = self.under_way else {
+            return false;
+        };
+        if !go_on::<R>(&mut cursor, header, step) {
+            return false;
+        }
+        self.under_way = Some(cursor);
+        true
+    }
+
+    /// The step that is due in the call under way: none where no call is, where it has ended, and where it asks a rule.
+    pub fn due_under_way<R: RuleFunctions>(&self, header: &Header) -> Option<DueStep>
+        requires header { IsHeader header.now }
+        requires within { (lane : LaneOf) × (acts : List Act) × IsWalkWithin header.now.layout lane acts self.now }
+    {
+        match &self.under_way {
+            Some(cursor) => match rules_asked(cursor) {
+                Some(_) => None,
+                None => due_step::<R>(cursor, header),
             },
             None => None,
+        }
+    }
+
+    /// The call whose step is due: none where all acts are made.
+    pub fn due_call<R: RuleFunctions, K: ZonePeaks>(
+        &self,
+        header: &Header,
+        peaks: &K,
+        lane: Lane,
+        acts: &[Act],
+    ) -> Option<DueCall>
+        requires header { IsHeader header.now }
+        requires acts { All (λ act. IsPageAct header.now.layout lane act) acts.now }
+        requires within { IsWalkWithin header.now.layout lane acts.now self.now }
+        requires kept { (base : State) × (h : History) × IsLegal (facts_of header.now base) h
+            × K.Keeps peaks.now (facts_of header.now base) h }
+        ensures some { (base : State) (p : ℕ) (h : History) → IsHistoryFor header.now base lane p h →
+            K.Keeps peaks.now (facts_of header.now base) h →
+            StandsAt header.now base R.pressure R.normal lane p acts.now self.now h → IfSome result
+            (λ call. IsDueAt header.now base R.pressure R.normal lane p acts.now call (own h p)) }
+        ensures none { (base : State) (p : ℕ) (h : History) → IsHistoryFor header.now base lane p h →
+            K.Keeps peaks.now (facts_of header.now base) h →
+            StandsAt header.now base R.pressure R.normal lane p acts.now self.now h → IsNone result →
+            MakesActs (PageSteps header.now base R.pressure R.normal lane p) p acts.now h }
+        ensures within { IfSome result (λ call. IsDueWithin header.now.layout lane acts.now call) }
+    {
+        match self.under_way {
+            Some(cursor) => {
+                let cursor = settled::<R, K>(cursor, header, peaks);
+                due_call::<R, K>(header, peaks, lane, acts, self.begun, cursor)
+            }
+            None => next_call::<R, K>(header, peaks, lane, acts, self.begun),
         }
     }
 
@@ -109,8 +230,8 @@ impl Walk {
     {
         plans_are_the_calls::<R>();
         cursors_can_be_completed::<R>();
-        match self.open::<R, K>(header, peaks, lane, acts) {
-            Some(call) => call.cursor.due::<R>(header),
+        match self.due_call::<R, K>(header, peaks, lane, acts) {
+            Some(call) => Some(call.due),
             None => None,
         }
     }
@@ -136,36 +257,38 @@ impl Walk {
         self.due::<R, K>(header, peaks, lane, acts).is_none()
     }
 
-    /// The call whose step is due, with no rule asked: none where all acts are made.
-    fn open<R: RuleFunctions, K: ZonePeaks>(
+    /// The walk after a step of the call whose step is due, which may be the next call.
+    fn next_of_due<R: RuleFunctions, K: ZonePeaks>(
         &self,
         header: &Header,
         peaks: &K,
         lane: Lane,
         acts: &[Act],
-    ) -> Option<OpenCall>
+        step: Step,
+    ) -> Option<Walk>
         requires header { IsHeader header.now }
         requires acts { All (λ act. IsPageAct header.now.layout lane act) acts.now }
         requires within { IsWalkWithin header.now.layout lane acts.now self.now }
         requires kept { (base : State) × (h : History) × IsLegal (facts_of header.now base) h
             × K.Keeps peaks.now (facts_of header.now base) h }
-        ensures some { (base : State) (p : ℕ) (h : History) → IsHistoryFor header.now base lane p h →
+        ensures goes { (base : State) (p : ℕ) (h : History) →
+            IsHistoryFor header.now base lane p (record { caller = p; step = step } ∷ h) →
             K.Keeps peaks.now (facts_of header.now base) h →
-            StandsAt header.now base R.pressure R.normal lane p acts.now self.now h → IfSome result
-            (λ call. IsOpenAt header.now base R.pressure R.normal lane p acts.now call (own h p)) }
-        ensures none { (base : State) (p : ℕ) (h : History) → IsHistoryFor header.now base lane p h →
+            StandsAt header.now base R.pressure R.normal lane p acts.now self.now h →
+            IfSome result (λ later. StandsAt header.now base R.pressure R.normal lane p acts.now later
+            (record { caller = p; step = step } ∷ h)) }
+        ensures stops { (base : State) (p : ℕ) (h : History) →
+            IsHistoryFor header.now base lane p (record { caller = p; step = step } ∷ h) →
             K.Keeps peaks.now (facts_of header.now base) h →
             StandsAt header.now base R.pressure R.normal lane p acts.now self.now h → IsNone result →
-            MakesInRow (PageSteps header.now base R.pressure R.normal lane p) p acts.now [] (own h p) }
-        ensures within { IfSome result (λ call. IsOpenWithin header.now.layout lane acts.now call) }
+            ¬ GoesAlong (PageSteps header.now base R.pressure R.normal lane p) p acts.now
+            (record { caller = p; step = step } ∷ h) }
+        ensures within { IfSome result (λ later. IsWalkWithin header.now.layout lane acts.now later) }
     {
-        match self.under_way {
-            Some(cursor) => {
-                let cursor = settled::<R, K>(cursor, header, peaks);
-                let begun = self.begun;
-                due_call::<R, K>(header, peaks, lane, acts, OpenCall { begun, cursor })
-            }
-            None => next_call::<R, K>(header, peaks, lane, acts, self.begun),
+        plans_are_the_calls::<R>();
+        match self.due_call::<R, K>(header, peaks, lane, acts) {
+            Some(call) => call.next::<R>(header, step),
+            None => None,
         }
     }
 }

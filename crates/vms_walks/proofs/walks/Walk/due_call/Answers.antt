@@ -4,24 +4,21 @@ use Rattle.std.specs.Prelude.{IfSome, Option}
 use Rattle.vms_cursors.specs.Calls.{IsWithin}
 use Rattle.vms_cursors.specs.declared.cursors.Cursor.{Cursor}
 use Rattle.vms_world.specs.Common.{own}
+use Rattle.vms_own_acts.proofs.OwnRows.{acts-of_whole_row}
 use Rattle.vms_walks.specs.Walks.{IsOfLane, StandsBy}
 use Rattle.vms_walks.proofs.OpenedCalls.{stands-same}
-use Rattle.vms_walks.proofs.walks.Walk.open.Goals as goal
+use Rattle.vms_walks.proofs.walks.Walk.due_call.Goals as goal
 
 pub settled-cursor-requires-clause-within : goal.settled-cursor-requires-clause-within
 settled-cursor-requires-clause-within g c =
     (subst (λ (u : Option Cursor). IfSome u (λ cursor. IsOfLane c.args.lane cursor
     × IsWithin c.args.header.now.layout cursor)) c.in-Some.is c.requires.within.under_way).1
 
-pub due_call-requires-clause-within : goal.due_call-requires-clause-within
-due_call-requires-clause-within g c = record {
-  begun = c.requires.within.begun;
-  of_lane = c.settled-cursor.ensures.of_lane c.args.lane
-      (subst (λ (u : Option Cursor). IfSome u (λ cursor. IsOfLane c.args.lane cursor
-      × IsWithin c.args.header.now.layout cursor)) c.in-Some.is c.requires.within.under_way).0;
-  within = c.settled-cursor.ensures.within;
-  ready = c.settled-cursor.ensures.ready;
-}
+pub due_call-requires-clause-of_lane : goal.due_call-requires-clause-of_lane
+due_call-requires-clause-of_lane g c =
+    c.settled-cursor.ensures.of_lane c.args.lane
+    (subst (λ (u : Option Cursor). IfSome u (λ cursor. IsOfLane c.args.lane cursor
+    × IsWithin c.args.header.now.layout cursor)) c.in-Some.is c.requires.within.under_way).0
 
 pub returns-in-Some-clause-some : goal.returns-in-Some-clause-some
 returns-in-Some-clause-some g c = λ base p h is keeps stands.
@@ -41,11 +38,12 @@ returns-in-Some-clause-none g c = λ base p h is keeps stands none.
     let N = g.R.ThresholdRules.normal in
     let of = (subst (λ (u : Option Cursor). IfSome u (λ cursor. IsOfLane c.args.lane cursor
     × IsWithin c.args.header.now.layout cursor)) c.in-Some.is c.requires.within.under_way).0 in
-    c.due_call.ensures.none base p h
+    acts-of_whole_row c.args.header.now base P N c.args.lane p c.args.acts.now h is
+    (c.due_call.ensures.none base p h is keeps
     (stands-same c.args.header.now base P N c.args.lane p c.args.acts.now c.args.self.now.begun c.in-Some.cursor
     c.settled-cursor.result (own h p) (c.settled-cursor.ensures.same base c.args.lane p h is keeps of)
     (subst (λ (u : Option Cursor). StandsBy c.args.header.now base P N c.args.lane p c.args.acts.now
-    c.args.self.now.begun u (own h p)) c.in-Some.is stands)) none
+    c.args.self.now.begun u (own h p)) c.in-Some.is stands)) none)
 
 pub returns-in-None-clause-some : goal.returns-in-None-clause-some
 returns-in-None-clause-some g c = λ base p h is keeps stands.
@@ -59,6 +57,7 @@ pub returns-in-None-clause-none : goal.returns-in-None-clause-none
 returns-in-None-clause-none g c = λ base p h is keeps stands none.
     let P = g.R.ThresholdRules.pressure in
     let N = g.R.ThresholdRules.normal in
-    c.next_call.ensures.none base p h
+    acts-of_whole_row c.args.header.now base P N c.args.lane p c.args.acts.now h is
+    (c.next_call.ensures.none base p h is keeps
     (subst (λ (u : Option Cursor). StandsBy c.args.header.now base P N c.args.lane p c.args.acts.now
-    c.args.self.now.begun u (own h p)) c.in-None.is stands) none
+    c.args.self.now.begun u (own h p)) c.in-None.is stands) none)
