@@ -2,6 +2,7 @@
 """Refuses each allocation of the proved program in turn, and says where its status or output isn't what it should be.
 
     bench/allocations.py [TRACE..]
+    bench/allocations.py --pool
 
 The program is crates/vozhkell/out/vozhkell, or the one that VOZHKELL names, called with the words `replay`, `check`,
 `run`, `gen` and `groups`. The traces are the stored run of the program and two phases of 2,000 lines, where none is
@@ -10,6 +11,9 @@ small library that is loaded before libc (cc builds it) makes the Nth call of ma
 N that a run reaches. Such a run ends with status 6, and what it wrote begins what the program writes where nothing is
 refused; or the same size is asked for again and found, and it ends as where nothing is refused. A line is printed for
 each trace, and the status is 1 if a run ends otherwise.
+
+With --pool the program is crates/pool_example/out/pool_example, which is to write what stands beside it. Where it finds
+no memory, it says so on standard error and ends with status 1; or it starts a thread less, and ends as otherwise.
 """
 import os
 import subprocess
@@ -17,7 +21,9 @@ import sys
 import tempfile
 
 TOP = os.path.dirname(os.path.dirname(os.path.abspath(__file__)))
-MEMORY = 6
+# how a program ends that finds no memory: the status, and what it says on standard error
+MEMORY = 6, b""
+POOL_MEMORY = 1, b"out of memory"
 LIBRARY = """
 #include <errno.h>
 #include <stdio.h>
@@ -34,8 +40,14 @@ __attribute__((constructor)) static void begin(void)
     refused = number ? atol(number) : 0;
 }
 
-/* A run tells on standard error how many calls it made. */
+/* A run tells on standard error how many calls it made, also where it ends by _exit. */
 __attribute__((destructor)) static void end(void) { dprintf(2, "%ld\\n", calls); }
+
+void _exit(int status)
+{
+    end();
+    _Exit(status);
+}
 
 static int finds_none(void)
 {
@@ -59,10 +71,13 @@ def library(folder):
 
 
 def run(words, preload, text, refused):
-    """The status, the output, and how many allocations were asked for."""
+    """The status, the output, and what was said on standard error: last how many allocations were asked for."""
     environment = {**os.environ, "LD_PRELOAD": preload, "REFUSED": str(refused)}
-    done = subprocess.run(words, input=text, capture_output=True, env=environment, timeout=60)
-    return done.returncode, done.stdout, int(done.stderr.split()[-1])
+    try:
+        done = subprocess.run(words, input=text, capture_output=True, env=environment, timeout=60)
+    except subprocess.TimeoutExpired:
+        return "not told within 60 s", b"", b""
+    return done.returncode, done.stdout, done.stderr
 
 
 def long_phases():
@@ -92,18 +107,20 @@ def calls_of(program, traces):
     yield "gen 1 4 50", [program, "gen", "1", "4", "50"], b"", None
 
 
-def wrong_runs(name, words, text, wanted, preload):
+def wrong_runs(name, words, text, wanted, preload, memory):
     """How many runs end otherwise than they should."""
-    status, out, calls = run(words, preload, text, 0)
+    status, out, said = run(words, preload, text, 0)
+    calls = int(said.split()[-1])
     ended, wrong = 0, int(wanted not in (None, out))
     for refused in range(1, calls + 1):
-        found, written, _ = run(words, preload, text, refused)
-        if found == MEMORY and out.startswith(written):
+        found, written, said = run(words, preload, text, refused)
+        if found == memory[0] and memory[1] in said and out.startswith(written):
             ended += 1
         elif (found, written) != (status, out):
             print(f"{name}: where allocation {refused} is refused the status is {found}, with {len(written)} bytes")
             wrong += 1
-    print(f"{name}: {calls} runs, another allocation refused in each: {ended} ended with status 6, {wrong} wrong")
+    print(f"{name}: {calls} runs, another allocation refused in each: {ended} ended with status {memory[0]}, "
+          f"{wrong} wrong")
     return wrong
 
 
@@ -111,11 +128,17 @@ def main():
     if sys.argv[1:2] in (["-h"], ["--help"]):
         print(__doc__.strip())
         return 0
-    program = os.environ.get("VOZHKELL", os.path.join(TOP, "crates", "vozhkell", "out", "vozhkell"))
-    traces = {name: contents(name) for name in sys.argv[1:]}
+    if sys.argv[1:] == ["--pool"]:
+        crate = os.path.join(TOP, "crates", "pool_example")
+        calls = [("pool_example", [os.path.join(crate, "out", "pool_example")], b"", contents(crate, "stdout"))]
+        memory = POOL_MEMORY
+    else:
+        program = os.environ.get("VOZHKELL", os.path.join(TOP, "crates", "vozhkell", "out", "vozhkell"))
+        calls = calls_of(program, {name: contents(name) for name in sys.argv[1:]})
+        memory = MEMORY
     with tempfile.TemporaryDirectory() as folder:
         preload = library(folder)
-        wrong = [wrong_runs(*call, preload) for call in calls_of(program, traces)]
+        wrong = [wrong_runs(*call, preload, memory) for call in calls]
     return 1 if sum(wrong) else 0
 
 
