@@ -63,6 +63,25 @@ def asking_once(below):
     return once
 
 
+def quickened(crate):
+    crate.stamp, crate.below = remembering(crate.stamp), asking_once(crate.below)
+
+
+def running(path):
+    """What `rt` calls with its words."""
+    kit = loaded(path)
+    quickened(kit.rtlib.Crate)
+    return kit.main
+
+
+def planting(path):
+    """The same of `rt plant`."""
+    planter = loaded(path)
+    quickened(planter.rt.Crate)
+    planter.rt.guarded()
+    return lambda words: planter.main(*words[1:])
+
+
 def main(words):
     path = shutil.which("rt")
     if path is None:
@@ -70,10 +89,7 @@ def main(words):
         return 127
     path = os.path.realpath(path)
     try:
-        kit = loaded(path)
-        crate = kit.rtlib.Crate
-        crate.stamp, crate.below = remembering(crate.stamp), asking_once(crate.below)
-        run = kit.main
+        run = planting(f"{path}-plant") if words[:1] == ["plant"] else running(path)
     except (AttributeError, ImportError, OSError, SyntaxError):
         os.execv(path, [path, *words])
     return run(words)

@@ -44,6 +44,19 @@ if __name__ == "__main__":
 """
 
 
+PLANT = """#!/usr/bin/env python3
+import rtlib as rt
+
+
+def main(*words):
+    crates = []
+    for folder in words:
+        crates.append(rt.Crate(folder, list(crates)))
+    print(crates[-1].stamp())
+    return 5
+"""
+
+
 class QuickRtTest(unittest.TestCase):
     def setUp(self):
         room = tempfile.TemporaryDirectory()
@@ -68,6 +81,11 @@ class QuickRtTest(unittest.TestCase):
         self.assertEqual((status, errors), (3, ""))
         self.assertEqual(lines, 2 * ["c a b a c(a)(b(a))", "ab"])
         self.assertEqual(self.start("a", "b", "c"), (3, 2 * ["c a b c(a)(b(a))", "ab"], ""))
+
+    def test_rt_plant_reads_each_crate_once_too(self):
+        self.write(RT, LIBRARY + "\n\ndef guarded():\n    return []\n")
+        (self.tools / "rt-plant").write_text(PLANT)
+        self.assertEqual(self.start("plant", "a", "b", "c"), (5, ["c a b c(a)(b(a))"], ""))
 
     def test_another_rt_is_run_as_it_is(self):
         for what, text, library in [
