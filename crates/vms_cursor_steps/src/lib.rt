@@ -1,4 +1,4 @@
-//! Steps of cursors in place: a cursor goes on without a copy of where its call stands.
+//! Steps of cursors in place: no other cursor is made.
 #![tactic(auto)]
 
 mod cursor_steps;
