@@ -17,9 +17,11 @@ use Rattle.vms_line.specs.declared.causes.LineCause.{LineCause}
 use Rattle.vms_line.specs.declared.causes.LineCause.TheVariants.{NotOnline, NotDead, NotFolded, LastCpu}
 use Rattle.vms_line.specs.Common.{IsLineOf}
 use Rattle.vms_script.specs.declared.cpus.CpuStates.{CpuStates}
+use Rattle.vms_script.specs.declared.effects.Effect.{Effect}
+use Rattle.vms_script.specs.declared.effects.Effect.TheVariants.{Nothing, State}
 use Rattle.vms_script.specs.declared.judges.LineJudge.{LineJudge}
 use Rattle.vms_script.specs.Common.{cpu_state, state_past, online_below, online_count, allowed, with_counted, Decides}
-use Rattle.vms_script.specs.Common.{JudgeStands}
+use Rattle.vms_script.specs.Common.{CanApply, FindsEffect, HasEffect, JudgeStands}
 use Rattle.vms_base.specs.Common.{is_online}
 use Rattle.vms_script.proofs.CpuCounts.{TellsCpuStates-set}
 use Rattle.vms_script.proofs.JudgeStateLaws.{KeepsSums, JudgeStands-moved, JudgeStands-still}
@@ -47,6 +49,22 @@ Decides-kept line judge judge' counts why = record {
       let found = why header lines is_line stands in
       (sym found.0, subst (λ (above : List Line). JudgeStands header above judge') (sym (counts lines)) found.1);
 }
+
+-- an effect is found that finds its place, and with which the line is decided
+pub FindsEffect-kept : (line : Line) (judge : LineJudge) (effect : Effect) → CanApply effect judge
+    → ((judge' : LineJudge) → HasEffect effect judge judge' → Decides line judge judge' (Ok tt))
+    → FindsEffect line judge (Ok effect)
+FindsEffect-kept line judge effect can decides = record { ok = (can, decides); err = tt }
+
+pub FindsEffect-nothing : (line : Line) (judge : LineJudge) → Decides line judge judge (Ok tt)
+    → FindsEffect line judge (Ok Nothing)
+FindsEffect-nothing line judge decides =
+    FindsEffect-kept line judge Nothing tt
+    (λ judge' is. subst (λ (j : LineJudge). Decides line judge j (Ok tt)) (sym is) decides)
+
+pub FindsEffect-refused : (line : Line) (judge : LineJudge) (cause : LineCause) → Decides line judge judge (Err cause)
+    → FindsEffect line judge (Err cause)
+FindsEffect-refused line judge cause decides = record { ok = tt; err = decides }
 
 -- two numbers that differ, by their test
 ne-eqb : (a b : ℕ) → (a ≡ b → ⊥) → nat_eq a b ≡ false
@@ -165,6 +183,19 @@ module _ (cpu : CpuId) (judge : LineJudge) where
               (if_state_same cpu.number (cpu_state cpu.number lines) IsOnline) (adds_nothing-boundary
               (Online cpu)) is_line same online stands,
         ))
+
+-- an effect on the state of a CPU, where the line is decided with any states that have it
+pub FindsEffect-state : (line : Line) (judge : LineJudge) (cpu : CpuId) (state : CpuState)
+    → CanApply (State cpu state) judge
+    → ((states : CpuStates) → states.states ≡ set judge.cpus.states cpu.number state
+    → states.online + online_count (get_or judge.cpus.states cpu.number IsOnline) ≡ judge.cpus.online +
+    online_count state
+    → Decides line judge (record judge { cpus = states }) (Ok tt))
+    → FindsEffect line judge (Ok (State cpu state))
+FindsEffect-state line judge cpu state can decides =
+    FindsEffect-kept line judge (State cpu state) can
+    (λ judge' has. subst (λ (j : LineJudge). Decides line judge j (Ok tt)) (sym has.3)
+    (decides has.0 has.1 has.2))
 
 -- another act of the control lane counts, and changes nothing here
 pub Decides-control : (act : Act) (judge : LineJudge) → ((cpu : CpuId) → act ≡ Dead cpu → ⊥)

@@ -1,9 +1,10 @@
 -- Where a judge stands after a line.
-use Rattle.std.proofs.Common.{◌≡◌, ℕ, zero, suc, ◌*◌, ◌^◌, ◌<◌, List, [], ◌∷◌, length, get_or, replicate, refl, sym, ap}
-use Rattle.std.proofs.Common.{◌∙◌, arith}
+use Rattle.std.proofs.Common.{◌≡◌, ℕ, zero, suc, ◌+◌, ◌-◌, ◌*◌, ◌^◌, ◌<◌, List, [], ◌∷◌, length, get_or, set, replicate}
+use Rattle.std.proofs.Common.{refl, sym, ap, ◌∙◌, arith}
 use Rattle.std.proofs.lemmas.List.{length-replicate, get_or-replicate}
 use Rattle.std.proofs.Math.Nat.{mul-le-mul}
 use Rattle.vms_base.specs.declared.headers.Header.{Header}
+use Rattle.vms_base.specs.declared.ids.CpuId.{CpuId}
 use Rattle.vms_base.specs.declared.kinds.CpuState.{CpuState}
 use Rattle.vms_base.specs.declared.kinds.CpuState.TheVariants.{Online as IsOnline}
 use Rattle.vms_base.specs.Common.{IsHeader, cell, counter_count}
@@ -11,11 +12,14 @@ use Rattle.vms_base.proofs.Common.{cell-lt, counter_count-most}
 use Rattle.vms_text.specs.declared.acts.Act.{Act}
 use Rattle.vms_text.specs.declared.acts.Line.{Line}
 use Rattle.vms_script.specs.declared.cpus.CpuStates.{CpuStates}
+use Rattle.vms_script.specs.declared.effects.Effect.{Effect}
+use Rattle.vms_script.specs.declared.effects.Effect.TheVariants.{Nothing, State, Counter, Event, Pcpu}
 use Rattle.vms_script.specs.declared.judges.LineJudge.{LineJudge}
 use Rattle.vms_script.specs.declared.volumes.VolumeTable.{VolumeTable}
 use Rattle.vms_script.specs.Common.{state_past, online_below, by_cpu, spent_on_counter, spent_on_event, spent_on_pcpu}
-use Rattle.vms_script.specs.Common.{volume, JudgeStands, TellsCpuStates, TellsVolumes}
-use Rattle.vms_script.proofs.CpuCounts.{TellsCpuStates-still}
+use Rattle.vms_script.specs.Common.{volume, CanApply, HasEffect, JudgeStands, TellsCpuStates, TellsVolumes}
+use Rattle.vms_script.specs.Common.{online_count, with_new_volume}
+use Rattle.vms_script.proofs.CpuCounts.{TellsCpuStates-still, online_below-has, online_below-most}
 use Rattle.vms_script.proofs.VolumeSums.{TellsVolumes-still}
 
 -- a table of volumes is small
@@ -80,3 +84,32 @@ module _ (header : Header) (lines : List Line) (line : Line) (judge : LineJudge)
   JudgeStands-still same adds stands =
       JudgeStands-moved judge.cpus adds
       (TellsCpuStates-still lines line header.layout.cpus judge.cpus same stands.cpus) stands
+
+-- a judge of a body finds the place of each of its CPUs
+pub CanApply-state : (header : Header) (lines : List Line) (judge : LineJudge) (cpu : CpuId) (state : CpuState)
+    → IsHeader header → JudgeStands header lines judge → cpu.number < header.layout.cpus
+    → CanApply (State cpu state) judge
+CanApply-state header lines judge cpu state is stands below = (
+  omega (arith, stands.cpus.each),
+  omega (
+    arith,
+    stands.cpus.online,
+    ap online_count (stands.cpus.state cpu.number below),
+    online_below-has header.layout.cpus cpu.number lines below,
+  ),
+  omega (arith, stands.cpus.online, online_below-most header.layout.cpus lines, is.is_layout.cpus_most),
+)
+
+-- an effect that finds its place makes something of a judge
+pub HasEffect-some : (effect : Effect) (judge : LineJudge) → CanApply effect judge
+    → (judge' : LineJudge) × HasEffect effect judge judge'
+HasEffect-some Nothing judge can = (judge, refl)
+HasEffect-some (State cpu state) judge can =
+    let before = online_count (get_or judge.cpus.states cpu.number IsOnline) in
+    let states : CpuStates = record {
+      states = set judge.cpus.states cpu.number state;
+      online = judge.cpus.online + online_count state - before;
+    } in (record judge { cpus = states }, (states, refl, omega (arith, can.1), refl))
+HasEffect-some (Counter new) judge can = (record judge { counters = with_new_volume judge.counters new }, refl)
+HasEffect-some (Event new) judge can = (record judge { events = with_new_volume judge.events new }, refl)
+HasEffect-some (Pcpu new) judge can = (record judge { pcpu = with_new_volume judge.pcpu new }, refl)

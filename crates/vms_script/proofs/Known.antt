@@ -18,9 +18,9 @@ use Rattle.vms_line.specs.declared.causes.LineCause.TheVariants.{NotOnline, Over
 use Rattle.vms_line.specs.Common.{read_line, IsLineOf}
 use Rattle.vms_text.specs.Common.{and_then}
 use Rattle.vms_line.proofs.Common.{read_line-known}
-use Rattle.vms_script.specs.Common.{online_among, allowed_boundary, allowed_burial, allowed_from, allowed_of_control}
-use Rattle.vms_script.specs.Common.{allowed_online, judged, judged_from, overflows_from, Start, first_start}
-use Rattle.vms_script.specs.Common.{start_after}
+use Rattle.vms_script.specs.Common.{online_among, allowed, allowed_boundary, allowed_burial, allowed_from}
+use Rattle.vms_script.specs.Common.{allowed_of_control, allowed_online, judged, judged_from, overflows_from, Start}
+use Rattle.vms_script.specs.Common.{first_start, start_after}
 
 -- the line itself, if any
 abbrev Keeps : Line → Result Line LineCause → Type 0
@@ -101,3 +101,13 @@ module _ (header : Header) (lines : List Line) (text : List ℕ) (line : Line) w
 
   pub judged-known : IsHeader header → judged header lines text ≡ Ok line → IsLineOf header line
   judged-known is_header is = judged_from-known header (start_after first_start lines) text line is_header is
+
+-- a line that was read is judged as what it says
+pub judged-of : (header : Header) (lines : List Line) (text : List ℕ) (line : Line) (answer : Result Line LineCause)
+    → read_line header text ≡ Ok line → allowed header lines line ≡ answer → judged header lines text ≡ answer
+judged-of header lines text line answer read is =
+    ap (λ (r : Result Line LineCause). and_then r (allowed header lines)) read ∙ is
+
+pub judged-unread : (header : Header) (lines : List Line) (text : List ℕ) (cause : LineCause)
+    → read_line header text ≡ Err cause → judged header lines text ≡ Err cause
+judged-unread header lines text cause read = ap (λ (r : Result Line LineCause). and_then r (allowed header lines)) read

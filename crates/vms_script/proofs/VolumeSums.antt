@@ -12,7 +12,7 @@ use Rattle.vms_text.specs.declared.acts.Lane.TheVariants.{Cpu}
 use Rattle.vms_text.specs.declared.acts.Line.{Line}
 use Rattle.vms_text.specs.declared.acts.Line.TheVariants.{Lane}
 use Rattle.vms_script.specs.declared.volumes.VolumeTable.{VolumeTable}
-use Rattle.vms_script.specs.Common.{by_cpu, volume, HasCell, TellsVolumes, volume_at, with_volume}
+use Rattle.vms_script.specs.Common.{by_cpu, volume, HasCell, TellsVolumes, new_volume, volume_at, with_new_volume}
 
 -- the test of a number by another
 at_equal : (a b x y : ℕ) → a ≡ b → (if nat_eq a b then x else y) ≡ x
@@ -127,7 +127,7 @@ module _ (measure : ℕ → Act → ℕ) (cpu : CpuId) (act : Act) (thing size :
       → cpu.number < cpus → thing < width → volume_at table cpu.number thing + size ≤ most_volume
       → TellsVolumes cpus width (λ c k. volume (measure k) c lines) table
       → TellsVolumes cpus width (λ c k. volume (measure k) c (Lane (Cpu cpu) act ∷ lines))
-      (with_volume table cpu.number thing (volume_at table cpu.number thing + size))
+      (with_new_volume table (new_volume table cpu.number thing size))
   TellsVolumes-spent cpus width lines table below within affordable tells = record {
     same_width = tells.same_width;
     each = length-set table.sums (cell table.width cpu.number thing)

@@ -1,17 +1,20 @@
 -- What a judge of lines keeps of the lines above that count.
-use Rattle.std.specs.Prelude.{◌≡◌, ℕ, ◌*◌, ◌^◌, ◌<◌, ◌≤◌, List, length, slice_index_or, slice_set, Result, Ok, Err, ◌∷◌}
-use Rattle.std.specs.Prelude.{◌++◌, [], IfOk, IfSome}
+use Rattle.std.specs.Prelude.{◌≡◌, ℕ, ◌+◌, ◌*◌, ◌^◌, ◌<◌, ◌≤◌, List, length, slice_index_or, slice_set, Result, Ok, Err}
+use Rattle.std.specs.Prelude.{◌∷◌, ◌++◌, [], IfErr, IfOk, IfSome}
 use Rattle.vms_base.specs.declared.headers.Header.{Header}
 use Rattle.vms_base.specs.declared.kinds.CpuState.TheVariants.{Online}
 use Rattle.vms_base.specs.Common.{IsHeader, cell, counter_count, most_volume}
 use Rattle.vms_text.specs.declared.acts.Line.{Line}
 use Rattle.vms_script.specs.declared.cpus.CpuStates.{CpuStates}
+use Rattle.vms_script.specs.declared.effects.Effect.{Effect}
+use Rattle.vms_script.specs.declared.effects.Effect.TheVariants.{Nothing, State, Counter, Event, Pcpu}
 use Rattle.vms_script.specs.declared.judges.JudgedLine.{JudgedLine}
 use Rattle.vms_script.specs.declared.judges.LineJudge.{LineJudge}
+use Rattle.vms_script.specs.declared.volumes.NewVolume.{NewVolume}
 use Rattle.vms_script.specs.declared.volumes.VolumeTable.{VolumeTable}
 use Rattle.vms_line.specs.declared.causes.LineCause.{LineCause}
 use Rattle.vms_line.specs.Common.{IsLineOf, spelled_line}
-use Rattle.vms_script.specs.Cpus.{cpu_state, online_below}
+use Rattle.vms_script.specs.Cpus.{cpu_state, online_below, online_count}
 use Rattle.vms_script.specs.Judging.{allowed, with_counted}
 use Rattle.vms_script.specs.Volumes.{spent_on_counter, spent_on_event, spent_on_pcpu, volume}
 
@@ -25,9 +28,14 @@ pub record TellsCpuStates (cpus : ℕ) (lines : List Line) (states : CpuStates) 
 abbrev pub volume_at : VolumeTable → ℕ → ℕ → ℕ
 volume_at table c thing = slice_index_or table.sums (cell table.width c thing) 0
 
--- the table with another volume of a CPU and a thing
-abbrev pub with_volume : VolumeTable → ℕ → ℕ → ℕ → VolumeTable
-with_volume table c thing volume = record table { sums = slice_set table.sums (cell table.width c thing) volume }
+-- that volume with a size more, to be put in its place
+abbrev pub new_volume : VolumeTable → ℕ → ℕ → ℕ → NewVolume
+new_volume table c thing size =
+    record { index = cell table.width c thing; volume = volume_at table c thing + size }
+
+-- the table with a new volume in its place
+abbrev pub with_new_volume : VolumeTable → NewVolume → VolumeTable
+with_new_volume table new = record table { sums = slice_set table.sums new.index new.volume }
 
 -- a table that has a volume of a CPU and a thing, not past the most
 pub record HasCell (table : VolumeTable) (c thing : ℕ) : Type 0 where
@@ -71,6 +79,35 @@ pub record Decides (line : Line) (judge judge' : LineJudge) (result : Result (Un
       JudgeStands header lines judge →
       (answered line result ≡ allowed header lines line)
       × JudgeStands header (with_counted (answered line result) lines) judge'
+
+-- an effect finds its place in a judge
+abbrev pub CanApply : Effect → LineJudge → Type 0
+CanApply Nothing judge = Unit {0}
+CanApply (State cpu state) judge =
+    (cpu.number < length judge.cpus.states)
+    × (online_count (slice_index_or judge.cpus.states cpu.number Online) ≤ judge.cpus.online)
+    × (judge.cpus.online ≤ 128)
+CanApply (Counter new) judge = new.index < length judge.counters.sums
+CanApply (Event new) judge = new.index < length judge.events.sums
+CanApply (Pcpu new) judge = new.index < length judge.pcpu.sums
+
+-- what an effect makes of a judge
+abbrev pub HasEffect : Effect → LineJudge → LineJudge → Type 0
+HasEffect Nothing judge judge' = judge' ≡ judge
+HasEffect (State cpu state) judge judge' =
+    (states : CpuStates) × (states.states ≡ slice_set judge.cpus.states cpu.number state)
+    × (states.online + online_count (slice_index_or judge.cpus.states cpu.number Online)
+    ≡ judge.cpus.online + online_count state)
+    × (judge' ≡ record judge { cpus = states })
+HasEffect (Counter new) judge judge' = judge' ≡ record judge { counters = with_new_volume judge.counters new }
+HasEffect (Event new) judge judge' = judge' ≡ record judge { events = with_new_volume judge.events new }
+HasEffect (Pcpu new) judge judge' = judge' ≡ record judge { pcpu = with_new_volume judge.pcpu new }
+
+-- what a judge finds of a line that was read: an effect, with which the line is decided, or the first cause
+pub record FindsEffect (line : Line) (judge : LineJudge) (result : Result Effect LineCause) : Type 0 where
+  pub ok : IfOk result (λ effect. CanApply effect judge × ((judge' : LineJudge) → HasEffect effect judge judge'
+      → Decides line judge judge' (Ok tt)))
+  pub err : IfErr result (λ cause. Decides line judge judge (Err cause))
 
 -- where the bytes of a line are told, and it counts, they are its one spelling
 abbrev pub IsInOneSpelling : Header → JudgedLine → Type 0

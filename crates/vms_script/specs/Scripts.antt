@@ -1,15 +1,19 @@
 -- Scripts: the lane lines of a phase that count, as they are collected.
 use Rattle.std.specs.Prelude.{◌≡◌, ℕ, ◌≤◌, List, [], ◌∷◌, ◌++◌, length, map, reverse, Result, Ok, Err}
 use Rattle.vms_base.specs.declared.headers.Header.{Header}
+use Rattle.vms_base.specs.Common.{IsHeader}
+use Rattle.vms_text.specs.declared.acts.Act.{Act}
 use Rattle.vms_text.specs.declared.acts.Item.{Item}
+use Rattle.vms_text.specs.declared.acts.Lane.{Lane as LaneOf}
 use Rattle.vms_text.specs.declared.acts.Line.{Line}
 use Rattle.vms_text.specs.declared.acts.Line.TheVariants.{Blank, Lane, Boundary}
 use Rattle.vms_text.specs.Common.{IsKeepableLane}
+use Rattle.vms_line.specs.Common.{IsLineOf}
 use Rattle.vms_script.specs.declared.scripters.Fed.{Fed}
 use Rattle.vms_script.specs.declared.scripters.FeedError.{FeedError}
 use Rattle.vms_script.specs.declared.scripters.FeedError.TheVariants.{Refused, Memory}
 use Rattle.vms_script.specs.declared.scripters.Scripter.{Scripter}
-use Rattle.vms_script.specs.Judging.{judged}
+use Rattle.vms_script.specs.Judging.{allowed, judged}
 use Rattle.vms_script.specs.FittingScripts.{Fits}
 use Rattle.vms_script.specs.JudgeStates.{JudgeStands}
 use Rattle.vms_script.specs.PhaseScripts.{most_items}
@@ -95,14 +99,35 @@ pub record Gave (header : Header) (phases : List (List Item)) (scripter : Script
   pub is_open : IsOpenScript script
   pub holds : HoldsScript script scripter
 
--- what a scripter comes to with line n of this text. A line that doesn't count, and want of memory, leave it
+-- what a scripter comes to with line n of this text. A line that doesn't count leaves it, and so does want of memory,
+-- which a lane line that counts may meet alone
 abbrev pub Feeds : ℕ → List ℕ → Script → Scripter → Result Fed FeedError → Type 0
 Feeds n text script scripter (Ok fed) =
     (line : Line) × (judged script.header script.lines text ≡ Ok line) × (fed ≡ fed_of line) × HoldsScript
     (script_with_line n line script) scripter
 Feeds n text script scripter (Err (Refused cause)) =
     (judged script.header script.lines text ≡ Err cause) × HoldsScript script scripter
-Feeds n text script scripter (Err Memory) = HoldsScript script scripter
+Feeds n text script scripter (Err Memory) =
+    (lane : LaneOf) × (act : Act) × (judged script.header script.lines text ≡ Ok (Lane lane act)) × HoldsScript
+    script scripter
+
+-- a line of the header, fed to a scripter that takes lines
+pub record IsFedLine (line : Line) (script : Script) (scripter : Scripter) : Type 0 where
+  pub is_header : IsHeader script.header
+  pub is_line : IsLineOf script.header line
+  pub is_open : IsOpenScript script
+  pub holds : HoldsScript script scripter
+
+-- what a scripter comes to with line n, which was read
+abbrev pub FeedsLine : ℕ → Line → Script → Scripter → Result Fed FeedError → Type 0
+FeedsLine n line script scripter (Ok fed) =
+    (allowed script.header script.lines line ≡ Ok line) × (fed ≡ fed_of line) × HoldsScript
+    (script_with_line n line script) scripter
+FeedsLine n line script scripter (Err (Refused cause)) =
+    (allowed script.header script.lines line ≡ Err cause) × HoldsScript script scripter
+FeedsLine n line script scripter (Err Memory) =
+    (lane : LaneOf) × (act : Act) × (line ≡ Lane lane act) × (allowed script.header script.lines line ≡ Ok line)
+    × HoldsScript script scripter
 
 -- what a scripter comes to when its lane lines are taken: they are a phase that fits what it began with
 pub record Takes (script : Script) (phase : List Item) (scripter : Scripter) : Type 0 where

@@ -1,7 +1,8 @@
 use crate::cpus::CpuStates;
+use crate::effects::Effect;
 use crate::volumes::VolumeTable;
 use std::alloc::Global;
-use vms_base::{CpuId, CpuState, Header, Memory};
+use vms_base::{CounterId, CpuId, CpuState, EventId, Header, Memory, PcpuId};
 use vms_line::{Act, Boundary, Lane, Line, LineCause, parse_line, parse_spelled};
 
 /// What was judged of a line.
@@ -23,12 +24,12 @@ pub struct LineJudge {
 }
 
 impl LineJudge {
-    ghost use Rattle.std.specs.Prelude.{◌≡◌, [], List, IfOk, slice_index_or};
-    ghost use Rattle.vms_base.specs.Common.{IsHeader};
+    ghost use Rattle.std.specs.Prelude.{◌≡◌, ◌+◌, [], List, Err, IfOk, Ok, if◌then◌else◌, nat_lt, slice_index_or};
+    ghost use Rattle.vms_base.specs.Common.{IsHeader, most_volume};
     ghost use Rattle.vms_text.specs.declared.acts.Line.{Line};
     ghost use Rattle.vms_script.specs.Judging.{with_counted, judged};
-    ghost use Rattle.vms_script.specs.JudgeStates.{JudgesLine, Decides, IsInOneSpelling, MayJudge, SomeJudge};
-    ghost use Rattle.vms_script.specs.JudgeStates.{JudgeStands};
+    ghost use Rattle.vms_script.specs.JudgeStates.{CanApply, FindsEffect, HasCell, HasEffect, IsInOneSpelling};
+    ghost use Rattle.vms_script.specs.JudgeStates.{JudgeStands, JudgesLine, MayJudge, SomeJudge, new_volume, volume_at};
 
     /// A judge before the first line of a body with this header.
     pub fn make(alloc: Global, header: &Header) -> Result<LineJudge, Memory>
@@ -82,119 +83,168 @@ impl LineJudge {
 
     /// Decides a line that was read, and gives it back where it counts.
     #[inline(always)]
-    fn decide(&mut self, line: Line) -> Result<Line, LineCause>
+    pub(crate) fn decide(&mut self, line: Line) -> Result<Line, LineCause>
         requires { MayJudge self.old line }
         ensures answers { JudgesLine line self.old self.new result }
         ensures same { IfOk result (λ said. said ≡ line) }
     {
-        self.allow(line)?;
+        let effect = self.effect(line)?;
+        self.apply(effect);
         Ok(line)
     }
 
-    /// Decides a line that was read.
+    /// Does what a line does that counts.
     #[inline(always)]
-    fn allow(&mut self, line: Line) -> Result<(), LineCause>
-        requires { MayJudge self.old line }
-        ensures { Decides line self.old self.new result }
+    pub(crate) fn apply(&mut self, effect: Effect)
+        requires { CanApply effect self.old }
+        ensures { HasEffect effect self.old self.new }
+    {
+        match effect {
+            Effect::Nothing => {}
+            Effect::State(cpu, state) => self.cpus.set(cpu, state),
+            Effect::Counter(new) => self.counters.put(new),
+            Effect::Event(new) => self.events.put(new),
+            Effect::Pcpu(new) => self.pcpu.put(new),
+        }
+    }
+
+    /// What a line that was read does, or the first cause why it doesn't count. Nothing changes.
+    #[inline(always)]
+    pub(crate) fn effect(&self, line: Line) -> Result<Effect, LineCause>
+        requires { MayJudge self.now line }
+        ensures { FindsEffect line self.now result }
     {
         match line {
-            Line::Blank => Ok(()),
-            Line::Lane(lane, act) => self.allow_lane(lane, act),
-            Line::Boundary(boundary) => self.allow_boundary(boundary),
+            Line::Blank => Ok(Effect::Nothing),
+            Line::Lane(lane, act) => self.lane_effect(lane, act),
+            Line::Boundary(boundary) => self.boundary_effect(boundary),
         }
     }
 
-    /// Decides a line of a lane.
+    /// What a line of a lane does.
     #[inline(always)]
-    fn allow_lane(&mut self, lane: Lane, act: Act) -> Result<(), LineCause>
-        requires { MayJudge self.old (Line.Lane lane act) }
-        ensures { Decides (Line.Lane lane act) self.old self.new result }
+    fn lane_effect(&self, lane: Lane, act: Act) -> Result<Effect, LineCause>
+        requires { MayJudge self.now (Line.Lane lane act) }
+        ensures { FindsEffect (Line.Lane lane act) self.now result }
     {
         match lane {
-            Lane::Cpu(cpu) => self.allow_act(cpu, act),
-            Lane::Control => self.allow_control(act),
+            Lane::Cpu(cpu) => self.act_effect(cpu, act),
+            Lane::Control => self.control_effect(act),
         }
     }
 
-    /// Decides an act of the control lane.
-    fn allow_control(&mut self, act: Act) -> Result<(), LineCause>
-        requires { MayJudge self.old (Line.Lane Lane.Control act) }
-        ensures { Decides (Line.Lane Lane.Control act) self.old self.new result }
+    /// What an act of the control lane does.
+    fn control_effect(&self, act: Act) -> Result<Effect, LineCause>
+        requires { MayJudge self.now (Line.Lane Lane.Control act) }
+        ensures { FindsEffect (Line.Lane Lane.Control act) self.now result }
     {
         match act {
-            Act::Dead(cpu) => self.bury(cpu),
-            _ => Ok(()),
+            Act::Dead(cpu) => self.burial_effect(cpu),
+            _ => Ok(Effect::Nothing),
         }
     }
 
-    /// Decides a boundary line.
-    fn allow_boundary(&mut self, boundary: Boundary) -> Result<(), LineCause>
-        requires { MayJudge self.old (Line.Boundary boundary) }
-        ensures { Decides (Line.Boundary boundary) self.old self.new result }
+    /// What a boundary line does.
+    fn boundary_effect(&self, boundary: Boundary) -> Result<Effect, LineCause>
+        requires { MayJudge self.now (Line.Boundary boundary) }
+        ensures { FindsEffect (Line.Boundary boundary) self.now result }
     {
         match boundary {
-            Boundary::Offline(cpu) => self.take_down(cpu),
-            Boundary::Online(cpu) => self.bring_up(cpu),
-            _ => Ok(()),
+            Boundary::Offline(cpu) => self.offline_effect(cpu),
+            Boundary::Online(cpu) => self.online_effect(cpu),
+            _ => Ok(Effect::Nothing),
         }
     }
 
-    /// Decides an act of a CPU's lane.
+    /// What an act of a CPU's lane does.
     #[inline(always)]
-    fn allow_act(&mut self, cpu: CpuId, act: Act) -> Result<(), LineCause>
-        requires { MayJudge self.old (Line.Lane (Lane.Cpu cpu) act) }
-        ensures { Decides (Line.Lane (Lane.Cpu cpu) act) self.old self.new result }
+    fn act_effect(&self, cpu: CpuId, act: Act) -> Result<Effect, LineCause>
+        requires { MayJudge self.now (Line.Lane (Lane.Cpu cpu) act) }
+        ensures { FindsEffect (Line.Lane (Lane.Cpu cpu) act) self.now result }
     {
         if self.cpus.is_online(cpu) {
-            self.spend(cpu, act)
+            self.spending_effect(cpu, act)
         } else {
             Err(LineCause::NotOnline)
         }
     }
 
-    /// Adds what an act changes to the volumes of a CPU, which is online, unless one would exceed its most.
+    /// What an act of a CPU adds to its volumes, which is online, unless one would exceed its most.
     #[inline(always)]
-    fn spend(&mut self, cpu: CpuId, act: Act) -> Result<(), LineCause>
-        requires knows { MayJudge self.old (Line.Lane (Lane.Cpu cpu) act) }
-        requires online { slice_index_or self.old.cpus.states cpu.number CpuState.Online ≡ CpuState.Online }
-        ensures { Decides (Line.Lane (Lane.Cpu cpu) act) self.old self.new result }
+    fn spending_effect(&self, cpu: CpuId, act: Act) -> Result<Effect, LineCause>
+        requires knows { MayJudge self.now (Line.Lane (Lane.Cpu cpu) act) }
+        requires online { slice_index_or self.now.cpus.states cpu.number CpuState.Online ≡ CpuState.Online }
+        ensures { FindsEffect (Line.Lane (Lane.Cpu cpu) act) self.now result }
     {
         match act {
-            Act::Mod(counter, pages) => {
-                self.counters
-                    .spend(cpu, counter.number, pages.unsigned_abs())
-            }
-            Act::Inc(counter) => self.counters.spend(cpu, counter.number, 1),
-            Act::Dec(counter) => self.counters.spend(cpu, counter.number, 1),
-            Act::Ev(event, n) => self.events.spend(cpu, event.number, n),
-            Act::Cnt(counter, amount) => {
-                self.pcpu.spend(cpu, counter.number, amount.unsigned_abs())
-            }
+            Act::Mod(counter, pages) => self.spend_on_counter(cpu, counter, pages.unsigned_abs()),
+            Act::Inc(counter) => self.spend_on_counter(cpu, counter, 1),
+            Act::Dec(counter) => self.spend_on_counter(cpu, counter, 1),
+            Act::Ev(event, n) => self.spend_on_event(cpu, event, n),
+            Act::Cnt(counter, amount) => self.spend_on_pcpu(cpu, counter, amount.unsigned_abs()),
             Act::Lim(counter, _, amount) => {
-                self.pcpu.spend(cpu, counter.number, amount.unsigned_abs())
+                self.spend_on_pcpu(cpu, counter, amount.unsigned_abs())
             }
-            _ => Ok(()),
+            _ => Ok(Effect::Nothing),
         }
     }
 
+    /// What it does to add a size to a CPU's volume on a page counter.
+    #[inline(always)]
+    fn spend_on_counter(
+        &self,
+        cpu: CpuId,
+        counter: CounterId,
+        size: u64,
+    ) -> Result<Effect, LineCause>
+        requires { HasCell self.now.counters cpu.number counter.number }
+        ensures { result ≡ if nat_lt most_volume (volume_at self.now.counters cpu.number counter.number + size)
+            then Err LineCause.Overflow
+            else Ok (Effect.Counter (new_volume self.now.counters cpu.number counter.number size)) }
+    {
+        let new = self.counters.with_size(cpu, counter.number, size)?;
+        Ok(Effect::Counter(new))
+    }
+
+    /// The same on an event.
+    #[inline(always)]
+    fn spend_on_event(&self, cpu: CpuId, event: EventId, size: u64) -> Result<Effect, LineCause>
+        requires { HasCell self.now.events cpu.number event.number }
+        ensures { result ≡ if nat_lt most_volume (volume_at self.now.events cpu.number event.number + size)
+            then Err LineCause.Overflow
+            else Ok (Effect.Event (new_volume self.now.events cpu.number event.number size)) }
+    {
+        let new = self.events.with_size(cpu, event.number, size)?;
+        Ok(Effect::Event(new))
+    }
+
+    /// The same on a percpu counter.
+    #[inline(always)]
+    fn spend_on_pcpu(&self, cpu: CpuId, counter: PcpuId, size: u64) -> Result<Effect, LineCause>
+        requires { HasCell self.now.pcpu cpu.number counter.number }
+        ensures { result ≡ if nat_lt most_volume (volume_at self.now.pcpu cpu.number counter.number + size)
+            then Err LineCause.Overflow
+            else Ok (Effect.Pcpu (new_volume self.now.pcpu cpu.number counter.number size)) }
+    {
+        let new = self.pcpu.with_size(cpu, counter.number, size)?;
+        Ok(Effect::Pcpu(new))
+    }
+
     /// A dead CPU becomes absent.
-    fn bury(&mut self, cpu: CpuId) -> Result<(), LineCause>
-        requires { MayJudge self.old (Line.Lane Lane.Control (Act.Dead cpu)) }
-        ensures { Decides (Line.Lane Lane.Control (Act.Dead cpu)) self.old self.new result }
+    fn burial_effect(&self, cpu: CpuId) -> Result<Effect, LineCause>
+        requires { MayJudge self.now (Line.Lane Lane.Control (Act.Dead cpu)) }
+        ensures { FindsEffect (Line.Lane Lane.Control (Act.Dead cpu)) self.now result }
     {
         match self.cpus.get(cpu) {
-            CpuState::Dead => {
-                self.cpus.set(cpu, CpuState::Absent);
-                Ok(())
-            }
+            CpuState::Dead => Ok(Effect::State(cpu, CpuState::Absent)),
             CpuState::Online | CpuState::Absent => Err(LineCause::NotDead),
         }
     }
 
     /// An online CPU becomes dead, unless it is the only one.
-    fn take_down(&mut self, cpu: CpuId) -> Result<(), LineCause>
-        requires { MayJudge self.old (Line.Boundary (Boundary.Offline cpu)) }
-        ensures { Decides (Line.Boundary (Boundary.Offline cpu)) self.old self.new result }
+    fn offline_effect(&self, cpu: CpuId) -> Result<Effect, LineCause>
+        requires { MayJudge self.now (Line.Boundary (Boundary.Offline cpu)) }
+        ensures { FindsEffect (Line.Boundary (Boundary.Offline cpu)) self.now result }
     {
         if !self.cpus.is_online(cpu) {
             return Err(LineCause::NotOnline);
@@ -202,22 +252,18 @@ impl LineJudge {
         if self.cpus.online == 1 {
             return Err(LineCause::LastCpu);
         }
-        self.cpus.set(cpu, CpuState::Dead);
-        Ok(())
+        Ok(Effect::State(cpu, CpuState::Dead))
     }
 
     /// An absent CPU becomes online.
-    fn bring_up(&mut self, cpu: CpuId) -> Result<(), LineCause>
-        requires { MayJudge self.old (Line.Boundary (Boundary.Online cpu)) }
-        ensures { Decides (Line.Boundary (Boundary.Online cpu)) self.old self.new result }
+    fn online_effect(&self, cpu: CpuId) -> Result<Effect, LineCause>
+        requires { MayJudge self.now (Line.Boundary (Boundary.Online cpu)) }
+        ensures { FindsEffect (Line.Boundary (Boundary.Online cpu)) self.now result }
     {
         match self.cpus.get(cpu) {
             CpuState::Online => Err(LineCause::NotDead),
             CpuState::Dead => Err(LineCause::NotFolded),
-            CpuState::Absent => {
-                self.cpus.set(cpu, CpuState::Online);
-                Ok(())
-            }
+            CpuState::Absent => Ok(Effect::State(cpu, CpuState::Online)),
         }
     }
 }

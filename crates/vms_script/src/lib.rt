@@ -2,6 +2,7 @@
 #![tactic(auto)]
 
 mod cpus;
+mod effects;
 mod judges;
 mod lane_scripts;
 mod laws;

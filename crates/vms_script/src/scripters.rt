@@ -1,7 +1,11 @@
+ghost use Rattle.std.specs.Prelude.{◌≡◌};
+ghost use Rattle.vms_base.specs.Common.{IsHeader};
+ghost use Rattle.vms_line.specs.Common.{read_line};
+
 use crate::{LineJudge, PhaseScript};
 use std::alloc::{AllocError, Global};
 use vms_base::{Header, Memory};
-use vms_line::{Boundary, Item, Line, LineCause};
+use vms_line::{Act, Boundary, Item, Lane, Line, LineCause, parse_line, parse_spelled};
 use vms_text::KeptLane;
 
 /// What a line that was fed came to.
@@ -45,10 +49,12 @@ pub struct Scripter {
 }
 
 impl Scripter {
-    ghost use Rattle.std.specs.Prelude.{◌≡◌, ◌<◌, All, IfOk, vec_capacity, vec_len};
+    ghost use Rattle.std.specs.Prelude.{◌≡◌, ◌<◌, ◌≤◌, All, IfOk, IsErrOf, vec_capacity, vec_len};
     ghost use Rattle.vms_base.specs.Common.{IsHeader};
-    ghost use Rattle.vms_script.specs.Scripts.{Feeds, HoldsScript, IsOpenScript, Script, SomeScripter, Takes, fed_of};
-    ghost use Rattle.vms_script.specs.Scripts.{MayKeep, first_script, script_with_line};
+    ghost use Rattle.vms_text.specs.Common.{IsKeepableLane};
+    ghost use Rattle.vms_script.specs.JudgeStates.{MayJudge};
+    ghost use Rattle.vms_script.specs.Scripts.{Feeds, FeedsLine, HoldsScript, IsFedLine, IsOpenScript, Script};
+    ghost use Rattle.vms_script.specs.Scripts.{SomeScripter, Takes, first_script};
 
     /// A scripter before the first line of a body with this header.
     pub fn make(alloc: Global, header: &Header) -> Result<Scripter, Memory>
@@ -69,13 +75,15 @@ impl Scripter {
         requires scripter { SomeScripter header.now self.old }
         requires number { All (λ item. item.number < number) self.old.items.items }
         requires few { vec_len self.old.items < 1000000 }
-        ensures { (script : Script) → script.header ≡ header.now → IsOpenScript script →
+        ensures fed { (script : Script) → script.header ≡ header.now → IsOpenScript script →
             HoldsScript script self.old →
             Feeds number line.now script self.new result }
+        ensures full { IsErrOf result FeedError.Memory → vec_capacity self.old.items ≤ vec_len self.old.items }
     {
-        self.items.reserve(1)?;
-        match self.judge.judge(header, line).said {
-            Ok(said) => Ok(self.keep(number, said)),
+        match read(header, line) {
+            Ok(Line::Blank) => Ok(Fed::Blank),
+            Ok(Line::Lane(lane, act)) => self.keep(number, lane, act),
+            Ok(Line::Boundary(boundary)) => self.cross(number, boundary),
             Err(cause) => Err(FeedError::Refused(cause)),
         }
     }
@@ -88,26 +96,56 @@ impl Scripter {
         PhaseScript::make(std::mem::replace(&mut self.items, Vec::new(self.alloc)))
     }
 
-    /// Keeps a line that counts, if it is one of a lane.
-    fn keep(&mut self, number: u32, said: Line) -> Fed
-        requires room { vec_len self.old.items < vec_capacity self.old.items }
-        requires may { MayKeep said }
-        ensures fed { result ≡ fed_of said }
-        ensures judge { self.new.judge ≡ self.old.judge }
-        ensures items { (script : Script) → self.old.items.items ≡ script.items →
-            self.new.items.items ≡ (script_with_line number said script).items }
+    /// Keeps a line of a lane, if it counts.
+    #[inline(always)]
+    fn keep(&mut self, number: u32, lane: Lane, act: Act) -> Result<Fed, FeedError>
+        requires judge { MayJudge self.old.judge (Line.Lane lane act) }
+        requires lane { IsKeepableLane lane }
+        requires number { All (λ item. item.number < number) self.old.items.items }
+        requires few { vec_len self.old.items < 1000000 }
+        ensures fed { (script : Script) → IsFedLine (Line.Lane lane act) script self.old →
+            FeedsLine number (Line.Lane lane act) script self.new result }
+        ensures full { IsErrOf result FeedError.Memory → vec_capacity self.old.items ≤ vec_len self.old.items }
     {
-        match said {
-            Line::Blank => Fed::Blank,
-            Line::Lane(lane, act) => {
+        match self.judge.effect(Line::Lane(lane, act)) {
+            Ok(effect) => {
+                // Room before the change: a line that finds none has changed nothing.
+                self.items.reserve(1)?;
+                self.judge.apply(effect);
                 self.items.push_reserved(Item {
                     number,
                     lane: KeptLane::of(lane),
                     act,
                 });
-                Fed::Kept
+                Ok(Fed::Kept)
             }
-            Line::Boundary(boundary) => Fed::Boundary(boundary),
+            Err(cause) => Err(FeedError::Refused(cause)),
         }
+    }
+
+    /// Takes in a boundary line, if it counts.
+    fn cross(&mut self, number: u32, boundary: Boundary) -> Result<Fed, FeedError>
+        requires judge { MayJudge self.old.judge (Line.Boundary boundary) }
+        requires number { All (λ item. item.number < number) self.old.items.items }
+        requires few { vec_len self.old.items < 1000000 }
+        ensures { (script : Script) → IsFedLine (Line.Boundary boundary) script self.old →
+            FeedsLine number (Line.Boundary boundary) script self.new result }
+    {
+        match self.judge.decide(Line::Boundary(boundary)) {
+            Ok(_) => Ok(Fed::Boundary(boundary)),
+            Err(cause) => Err(FeedError::Refused(cause)),
+        }
+    }
+}
+
+/// Reads a line of the body, in any spelling.
+#[inline(always)]
+fn read(header: &Header, line: &[u8]) -> Result<Line, LineCause>
+    requires { IsHeader header.now }
+    ensures { result ≡ read_line header.now line.now }
+{
+    match parse_spelled(header, line) {
+        Some(said) => Ok(said),
+        None => parse_line(header, line),
     }
 }

@@ -1,6 +1,6 @@
 ghost use Rattle.std.specs.Prelude.{◌≡◌, ◌+◌, ◌*◌, ◌<◌, ◌^◌, nat_lt, if◌then◌else◌, length, replicate, IfOk, Ok, Err};
 ghost use Rattle.vms_line.specs.declared.causes.LineCause.TheVariants.{Overflow};
-ghost use Rattle.vms_script.specs.JudgeStates.{HasCell, volume_at, with_volume};
+ghost use Rattle.vms_script.specs.JudgeStates.{HasCell, new_volume, volume_at, with_new_volume};
 ghost use Rattle.vms_base.specs.Common.{most_volume};
 
 use std::alloc::Global;
@@ -9,6 +9,13 @@ use vms_line::LineCause;
 
 /// The most by which one CPU changes one counter, event or percpu counter over a run, in absolute sum.
 const MOST_VOLUME: u64 = 1 << 48;
+
+/// A volume that takes the place of another in a table.
+#[derive(Clone, Copy)]
+pub(crate) struct NewVolume {
+    pub(crate) index: usize,
+    pub(crate) volume: u64,
+}
 
 /// By how much each CPU has changed each thing, in absolute sum, by CPU and then thing.
 #[derive(Drop)]
@@ -29,21 +36,32 @@ impl VolumeTable {
         })
     }
 
-    /// Adds a size to a CPU's volume on a thing, unless the volume would exceed 2^48.
-    #[inline]
-    pub(crate) fn spend(&mut self, cpu: CpuId, thing: u32, size: u64) -> Result<(), LineCause>
-        requires { HasCell self.old cpu.number thing }
-        ensures result { result ≡ if nat_lt most_volume (volume_at self.old cpu.number thing + size)
-            then Err Overflow else Ok tt }
-        ensures table { self.new ≡ if nat_lt most_volume (volume_at self.old cpu.number thing + size) then self.old
-            else with_volume self.old cpu.number thing (volume_at self.old cpu.number thing + size) }
+    /// A CPU's volume on a thing with a size more, unless it would exceed 2^48.
+    #[inline(always)]
+    pub(crate) fn with_size(
+        &self,
+        cpu: CpuId,
+        thing: u32,
+        size: u64,
+    ) -> Result<NewVolume, LineCause>
+        requires { HasCell self.now cpu.number thing }
+        ensures { result ≡ if nat_lt most_volume (volume_at self.now cpu.number thing + size)
+            then Err Overflow else Ok (new_volume self.now cpu.number thing size) }
     {
         let index = cpu.number as usize * self.width + thing as usize;
         let volume = self.sums.get(index).saturating_add(size);
         if volume > MOST_VOLUME {
             return Err(LineCause::Overflow);
         }
-        self.sums.set(index, volume);
-        Ok(())
+        Ok(NewVolume { index, volume })
+    }
+
+    /// Puts a volume in the place of another.
+    #[inline(always)]
+    pub(crate) fn put(&mut self, new: NewVolume)
+        requires { new.index < length self.old.sums }
+        ensures { self.new ≡ with_new_volume self.old new }
+    {
+        self.sums.set(new.index, new.volume);
     }
 }

@@ -5,7 +5,7 @@ use Rattle.vms_stream_trials.proofs.scripts.phase_of.Goals as goal
 
 pub returns-clause-gave : goal.returns-clause-gave
 returns-clause-gave c = λ phases gave.
-    let fed = c.in_ok-feed.ensures gave.script gave.of gave.is_open gave.holds in
+    let fed = c.in_ok-feed.ensures.fed gave.script gave.of gave.is_open gave.holds in
     let took = c.take_phase.ensures (script_with_line 1 fed.0 gave.script) fed.3 in
     record {
       script = with_taken (script_with_line 1 fed.0 gave.script);
