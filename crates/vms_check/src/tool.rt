@@ -10,7 +10,7 @@ use vms_stream::Status;
 /// The command `check`: writes a trace in its one spelling, and a comment in the place of each line that doesn't count
 /// and at the end.
 pub fn tool_check<S: Source, K: Sink>(alloc: Global, src: &mut S, out: &mut K) -> Status
-    ensures { TakesAndWrites S.remaining S.faults K.written K.faults src.old src.new out.old
+    ensures { TakesAndWrites S.remaining S.faults S.calls K.written K.faults K.calls src.old src.new out.old
         out.new result
         (Says check shown_by_check) }
 {

@@ -50,15 +50,16 @@ module _ {K O : Type 0} (command : TraceCommand K O) (is_plain : IsPlain command
 
   -- what it answers
   pub TakesAndWrites-plain : {R S : Type 0} (shows : Header → LinesAbove → K → Option O → Type 0)
-      (made made' : Option (List O)) (left : R → Option (List ℕ)) (read_faults : R → ℕ) (held : S → Option (List ℕ))
-      (write_faults : S → ℕ) (src src' : R) (out out' : S) (status : Status)
-      → AnswersPhased (waiting (following command)) (shown_given shows) made made' left read_faults held write_faults
-      src src' out out' status
-      → TakesAndWrites left read_faults held write_faults src src' out out' status
+      (made made' : Option (List O)) (left : R → Option (List ℕ)) (read_faults read_calls : R → ℕ)
+      (held : S → Option (List ℕ)) (write_faults write_calls : S → ℕ) (src src' : R) (out out' : S) (status : Status)
+      → AnswersPhased (waiting (following command)) (shown_given shows) made made' left read_faults read_calls held
+      write_faults write_calls src src' out out' status
+      → TakesAndWrites left read_faults read_calls held write_faults write_calls src src' out out' status
       (Says (plainly (following command)) (shown_at_end (λ header above kept. shows header above kept None)))
-  TakesAndWrites-plain shows made made' left read_faults held write_faults src src' out out' status answers =
-      TakesAndWrites-plainly (following command) asks_nothing (shown_given shows) made made' left read_faults held
-      write_faults src src' out out' status answers
+  TakesAndWrites-plain shows made made' left read_faults read_calls held write_faults write_calls src src' out out'
+      status answers =
+      TakesAndWrites-plainly (following command) asks_nothing (shown_given shows) made made' left read_faults read_calls
+      held write_faults write_calls src src' out out' status answers
 
   -- its body takes a line
   module _ {E P : Type 0} (stands stands' : Header → LinesAbove → K → Type 0) (made : Option (List O))

@@ -16,7 +16,7 @@ pub fn follow<B: Body, S: Source, K: Sink>(
     out: &mut K,
 ) -> (Status, B::Engine)
     ensures { AnswersPhased (waiting (following B.command)) (shown_given B.Shows) (B.made engine) (B.made result.1)
-        S.remaining S.faults K.written K.faults src.old src.new out.old out.new result.0 }
+        S.remaining S.faults S.calls K.written K.faults K.calls src.old src.new out.old out.new result.0 }
 {
     stream(alloc, &mut TraceJob::<B>::begin(alloc), engine, src, out)
 }

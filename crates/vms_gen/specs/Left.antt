@@ -1,4 +1,4 @@
--- The lines that a source has not made yet.
+-- What a source has not given yet.
 use Rattle.std.specs.Prelude.{ℕ, List, [], Option, Some, None}
 use Rattle.vms_gen.specs.Texts.{lines_after}
 use Rattle.vms_gen.specs.declared.unmade.Unmade.{Unmade}
@@ -10,3 +10,8 @@ lines_from cpus x None = []
 
 abbrev pub lines_left : Unmade → List (List (List ℕ))
 lines_left unmade = lines_from unmade.cpus unmade.state unmade.lines
+
+-- the bytes that a source has not given yet, and how many calls of it were made
+pub record Ungiven : Type 0 where
+  pub left : List ℕ
+  pub calls : ℕ

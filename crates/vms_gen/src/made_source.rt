@@ -13,23 +13,27 @@ pub struct MadeSource {
     line: LineText,
     /// How many bytes of the line were given.
     given: usize,
+    calls: u64,
 }
 
 impl Model for MadeSource {
-    ghost use Rattle.std.specs.Prelude.{ℕ, ◌≤◌, List, ◌++◌, drop, flat_map, length};
+    ghost use Rattle.std.specs.Prelude.{◌≤◌, ◌++◌, drop, flat_map, length};
     ghost use Rattle.vms_text.specs.Common.{sentence};
-    ghost use Rattle.vms_gen.specs.Left.{lines_left};
+    ghost use Rattle.vms_gen.specs.Left.{Ungiven, lines_left};
 
-    ghost Value = { List ℕ };
+    ghost Value = { Ungiven };
 
-    ghost view = { λ src. drop src.given src.line.items ++ flat_map sentence (lines_left src.unmade) };
+    ghost view = { λ src. record {
+      left = drop src.given src.line.items ++ flat_map sentence (lines_left src.unmade);
+      calls = src.calls;
+    } };
 
     ghost invariant = { λ src. src.given ≤ length src.line.items };
 }
 
 ghost use Rattle.std.specs.Prelude.{◌≡◌, ◌<◌, ◌≤◌, [], ◌++◌, length, take, drop, min, Some, Ok, IfOk};
 ghost use Rattle.std.specs.Io.KnownBytes.{ReadConsumes};
-ghost use Rattle.vms_io.specs.Common.{CountsFaults};
+ghost use Rattle.vms_io.specs.Common.{CountsFaults, one_call_more};
 ghost use Rattle.vms_gen.specs.Numbers.{InRange};
 ghost use Rattle.vms_gen.specs.Texts.{made_text};
 
@@ -37,7 +41,7 @@ impl MadeSource {
     /// The source of the text of these numbers.
     pub fn make(numbers: Numbers) -> MadeSource
         requires { InRange numbers }
-        ensures { result ≡ made_text numbers.seed numbers.cpus numbers.lines }
+        ensures { result ≡ record { left = made_text numbers.seed numbers.cpus numbers.lines; calls = 0 } }
     {
         MadeSource {
             unmade: Unmade {
@@ -47,6 +51,7 @@ impl MadeSource {
             },
             line: header_text(numbers.cpus),
             given: 0,
+            calls: 0,
         }
     }
 
@@ -54,9 +59,10 @@ impl MadeSource {
     fn give(&mut self, buf: &mut [u8]) -> usize
         requires { 0 < length buf.old }
         ensures room { result ≤ length buf.new }
-        ensures bytes { self.old ≡ take result buf.new ++ self.new }
+        ensures bytes { self.old.left ≡ take result buf.new ++ self.new.left }
         ensures after { drop result buf.new ≡ drop result buf.old }
-        ensures end { result ≡ 0 → self.old ≡ [] }
+        ensures end { result ≡ 0 → self.old.left ≡ [] }
+        ensures same_calls { self.new.calls ≡ self.old.calls }
     {
         if self.given == self.line.len() {
             match self.unmade.next_line() {
@@ -75,19 +81,23 @@ impl MadeSource {
 }
 
 impl Source for MadeSource {
-    ghost remaining = { λ src. Some src };
+    ghost remaining = { λ src. Some src.left };
 
     ghost faults = { λ _. 0 };
 
+    ghost calls = { λ src. src.calls };
+
     fn read(&mut self, buf: &mut [u8]) -> Result<usize, Failed>
         requires { 0 < length buf.old }
-        ensures size { result ≡ Ok (min (length buf.old) (length self.old)) }
+        ensures size { result ≡ Ok (min (length buf.old) (length self.old.left)) }
         ensures room { IfOk result (λ n. n ≤ length buf.new) }
-        ensures bytes { ReadConsumes (Some self.old) (Some self.new) result buf.new }
+        ensures bytes { ReadConsumes (Some self.old.left) (Some self.new.left) result buf.new }
         ensures after { IfOk result (λ n. drop n buf.new ≡ drop n buf.old) }
-        ensures left { self.new ≡ drop (length buf.old) self.old }
+        ensures left { self.new.left ≡ drop (length buf.old) self.old.left }
         ensures faults { CountsFaults 0 0 result }
+        ensures calls { self.new.calls ≡ one_call_more self.old.calls }
     {
+        self.calls = self.calls.saturating_add(1);
         let mut filled = 0;
         while filled < buf.len() {
             let count = self.give(&mut buf[filled..]);

@@ -28,8 +28,8 @@ pub fn tool_groups<R: Threads + Sync, G: Gate, S: Source, K: Sink>(
     gate: &G,
     made: &mut GroupRuns,
 ) -> Status
-    ensures { AnswersGroups made.old made.new S.remaining S.faults K.written K.faults src.old src.new out.old out.new
-        result }
+    ensures { AnswersGroups made.old made.new S.remaining S.faults S.calls K.written K.faults K.calls src.old src.new
+        out.old out.new result }
 {
     let kept = replace(made, GroupRuns::make(alloc));
     let (status, runs) = run_by(
@@ -56,8 +56,8 @@ fn run_by<F: GroupRunner, S: Source, K: Sink>(
     out: &mut K,
 ) -> (Status, GroupRuns)
     requires { RunsPhases (F.accepts runner) (F.returns runner) }
-    ensures { AnswersGroups kept result.1 S.remaining S.faults K.written K.faults src.old src.new out.old out.new
-        result.0 }
+    ensures { AnswersGroups kept result.1 S.remaining S.faults S.calls K.written K.faults K.calls src.old src.new
+        out.old out.new result.0 }
 {
     let (status, engine) = run_trace(alloc, OnThreads::make(alloc, runner, kept), src, out);
     (status, engine.into_runs())
@@ -70,8 +70,8 @@ fn run_trace<E: GroupEngine, S: Source, K: Sink>(
     src: &mut S,
     out: &mut K,
 ) -> (Status, E)
-    ensures { AnswersWith (E.made engine) (E.made result.1) S.remaining S.faults K.written K.faults src.old src.new
-        out.old out.new result.0 }
+    ensures { AnswersWith (E.made engine) (E.made result.1) S.remaining S.faults S.calls K.written K.faults K.calls
+        src.old src.new out.old out.new result.0 }
 {
     phases_lead_through_texts();
     stream(alloc, &mut GroupsJob::begin(alloc), engine, src, out)

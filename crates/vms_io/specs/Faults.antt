@@ -1,4 +1,4 @@
--- The count of faults of a source or a sink.
+-- The count of calls of a source or a sink, and the count of its faults.
 use Rattle.std.specs.Prelude.{◌≡◌, ℕ, ◌+◌, ◌-◌, ◌^◌, min, List, Option, Contains, Result, MatchResult}
 use Rattle.std.specs.Io.KnownBytes.{Keeps}
 
@@ -10,12 +10,13 @@ one_call_more n = min (n + 1) (2 ^ 64 - 1)
 abbrev pub CountsFaults : {A E : Type 0} → ℕ → ℕ → Result A E → Type 0
 CountsFaults before now result = MatchResult result (λ _. now ≡ before) (λ _. now ≡ one_call_more before)
 
--- one call failed, no call failed before it, and from it on no byte was moved. `told` is what is left in a source, or
--- what was written to a sink. `failing` is the source or the sink as the call that failed found it
-pub record LastFails {D : Type 0} (told : D → Option (List ℕ)) (faults : D → ℕ) (before now : D) : Type 0 where
+-- one call failed, no call failed before it, no call came after it, and from it on no byte was moved. `told` is what is
+-- left in a source, or what was written to a sink. `failing` is the source or the sink as the call that failed found it
+pub record LastFails {D : Type 0} (told : D → Option (List ℕ)) (faults calls : D → ℕ) (before now : D) : Type 0 where
   pub failing : D
   pub none_before : faults failing ≡ faults before
   pub once : faults now ≡ one_call_more (faults failing)
+  pub last : calls now ≡ one_call_more (calls failing)
   pub none_after : Keeps (told failing) (told now)
 
 -- the calls that are to fail, by their numbers from 1, how many were made, and how many failed

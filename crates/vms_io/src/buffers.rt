@@ -30,7 +30,7 @@ impl Model for ReadBuffer {
 ghost use Rattle.std.specs.Prelude.{◌≡◌, ℕ, ◌+◌, ◌<◌, ◌≤◌, max, List, [], length, take, drop, vec_len, IfOk, OnOk};
 ghost use Rattle.std.specs.Prelude.{OnErr, IsErrOf};
 ghost use Rattle.std.specs.Io.KnownBytes.{Keeps, ReadConsumes};
-ghost use Rattle.vms_io.specs.Faults.{CountsFaults, LastFails};
+ghost use Rattle.vms_io.specs.Faults.{CountsFaults, LastFails, one_call_more};
 ghost use Rattle.vms_io.specs.Reading.{Gets, Roomy, WholeLines};
 
 impl ReadBuffer {
@@ -86,7 +86,9 @@ impl ReadBuffer {
         ensures err { OnErr result (self.new ≡ self.old) }
         ensures unread { OnErr result (Keeps (S.remaining src.old) (S.remaining src.new)) }
         ensures faults { OnOk result (S.faults src.new ≡ S.faults src.old) }
-        ensures failed { IsErrOf result ReadError.Failed → LastFails S.remaining S.faults src.old src.new }
+        ensures calls { OnOk result (S.calls src.new ≡ one_call_more (S.calls src.old)) }
+        ensures failed_call { IsErrOf result ReadError.Failed → S.calls src.new ≡ one_call_more (S.calls src.old) }
+        ensures failed { IsErrOf result ReadError.Failed → LastFails S.remaining S.faults S.calls src.old src.new }
         ensures memory { IsErrOf result ReadError.Memory → src.new ≡ src.old }
         ensures full { IsErrOf result ReadError.Memory → 65536 ≤ length self.old }
     {
@@ -131,6 +133,7 @@ fn read_into<S: Source>(src: &mut S, room: &mut [u8], held: usize) -> Result<usi
     ensures bounded { IfOk result (λ n. n ≤ max 65536 held) }
     ensures bytes { ReadConsumes (S.remaining src.old) (S.remaining src.new) result (drop held room.new) }
     ensures faults { CountsFaults (S.faults src.old) (S.faults src.new) result }
+    ensures calls { S.calls src.new ≡ one_call_more (S.calls src.old) }
 {
     let end = held + (room.len() - held).min(held.max(LEAST_ROOM));
     src.read(&mut room[held..end])

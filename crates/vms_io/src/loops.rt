@@ -10,7 +10,7 @@ pub fn write_all<K: Sink>(out: &mut K, bytes: &[u8]) -> Result<(), Failed>
     ensures err { OnErr result ((n : ℕ) × (n < length bytes.now)
         × Appends (K.written out.old) (K.written out.new) (take n bytes.now)) }
     ensures faults { CountsFaults (K.faults out.old) (K.faults out.new) result }
-    ensures last { OnErr result (LastFails K.written K.faults out.old out.new) }
+    ensures last { OnErr result (LastFails K.written K.faults K.calls out.old out.new) }
     ensures empty { bytes.now ≡ [] → out.new ≡ out.old }
 {
     let mut rest = bytes;

@@ -33,7 +33,7 @@ impl Model for MemSink {
 
 ghost use Rattle.std.specs.Prelude.{◌≡◌, ◌⊎◌, ◌↔◌, ◌<◌, ◌≤◌, [], length, take, Some, IsErr, IfOk, OnErr};
 ghost use Rattle.std.specs.Io.KnownBytes.{WriteAppends};
-ghost use Rattle.vms_io.specs.Faults.{CountsFaults, FailsNext};
+ghost use Rattle.vms_io.specs.Faults.{CountsFaults, FailsNext, one_call_more};
 ghost use Rattle.vms_io.specs.InMemory.{IsFull, after_write, after_write_fault, write_size};
 
 impl MemSink {
@@ -75,11 +75,14 @@ impl Sink for MemSink {
 
     ghost faults = { λ out. out.calls.failed };
 
+    ghost calls = { λ out. out.calls.made };
+
     fn write(&mut self, bytes: &[u8]) -> Result<usize, Failed>
         requires { 0 < length bytes.now }
         ensures some { IfOk result (λ n. (1 ≤ n) × (n ≤ length bytes.now)) }
         ensures bytes { WriteAppends (Some self.old.written) (Some self.new.written) result bytes.now }
         ensures faults { CountsFaults self.old.calls.failed self.new.calls.failed result }
+        ensures calls { self.new.calls.made ≡ one_call_more self.old.calls.made }
         ensures fails { IsErr result ↔ (FailsNext self.old.calls ⊎ IsFull self.old) }
         ensures size { IfOk result (λ n. n ≡ write_size self.old (length bytes.now)) }
         ensures ok { IfOk result (λ n. self.new ≡ after_write (take n bytes.now) self.old) }

@@ -29,7 +29,7 @@ impl Model for MemSource {
 
 ghost use Rattle.std.specs.Prelude.{◌≡◌, ◌↔◌, ◌<◌, ◌≤◌, length, take, drop, Some, IsErr, IfOk, OnErr};
 ghost use Rattle.std.specs.Io.KnownBytes.{ReadConsumes};
-ghost use Rattle.vms_io.specs.Faults.{CountsFaults, FailsNext};
+ghost use Rattle.vms_io.specs.Faults.{CountsFaults, FailsNext, one_call_more};
 ghost use Rattle.vms_io.specs.InMemory.{after_read, after_read_fault, read_size};
 
 impl MemSource {
@@ -57,11 +57,14 @@ impl Source for MemSource {
 
     ghost faults = { λ src. src.calls.failed };
 
+    ghost calls = { λ src. src.calls.made };
+
     fn read(&mut self, buf: &mut [u8]) -> Result<usize, Failed>
         requires { 0 < length buf.old }
         ensures room { IfOk result (λ n. n ≤ length buf.new) }
         ensures bytes { ReadConsumes (Some self.old.left) (Some self.new.left) result buf.new }
         ensures faults { CountsFaults self.old.calls.failed self.new.calls.failed result }
+        ensures calls { self.new.calls.made ≡ one_call_more self.old.calls.made }
         ensures fails { IsErr result ↔ FailsNext self.old.calls }
         ensures size { IfOk result (λ n. n ≡ read_size self.old (length buf.old)) }
         ensures after { IfOk result (λ n. drop n buf.new ≡ drop n buf.old) }

@@ -1,23 +1,28 @@
 ghost use Rattle.std.specs.Prelude.{◌≡◌, ◌<◌, ◌≤◌, None, take, length, IfOk};
 ghost use Rattle.std.specs.Io.KnownBytes.{Appends, WriteAppends};
-ghost use Rattle.vms_io.specs.Faults.{CountsFaults};
+ghost use Rattle.vms_io.specs.Faults.{CountsFaults, one_call_more};
 
 use crate::{Failed, Sink};
 use std::io::{ErrorKind, Write};
 
-/// A writer of the standard library, such as standard output, with a count of its errors. It is flushed after each
-/// write. So a write may fail although its bytes reached the writer, and the sink tells no bytes.
+/// A writer of the standard library, such as standard output, with a count of its calls and one of its errors. It is
+/// flushed after each write. So a write may fail although its bytes reached the writer, and the sink tells no bytes.
 #[derive(Drop)]
 pub struct StdSink<W> {
     writer: W,
+    calls: u64,
     errors: u64,
 }
 
 impl<W: Write> StdSink<W> {
     pub fn make(writer: W) -> StdSink<W>
-        ensures { result ≡ record { writer = writer; errors = 0 } }
+        ensures { result ≡ record { writer = writer; calls = 0; errors = 0 } }
     {
-        StdSink { writer, errors: 0 }
+        StdSink {
+            writer,
+            calls: 0,
+            errors: 0,
+        }
     }
 }
 
@@ -26,13 +31,17 @@ impl<W: Write> Sink for StdSink<W> {
 
     ghost faults = { λ out. out.errors };
 
+    ghost calls = { λ out. out.calls };
+
     fn write(&mut self, bytes: &[u8]) -> Result<usize, Failed>
         requires { 0 < length bytes.now }
         ensures some { IfOk result (λ n. (1 ≤ n) × (n ≤ length bytes.now)) }
         ensures faults { CountsFaults self.old.errors self.new.errors result }
+        ensures calls { self.new.calls ≡ one_call_more self.old.calls }
         ensures written { IfOk result (λ n.
             Appends (W.contents self.old.writer) (W.contents self.new.writer) (take n bytes.now)) }
     {
+        self.calls = self.calls.saturating_add(1);
         let result = write_once(&mut self.writer, bytes);
         if result.is_err() {
             self.errors = self.errors.saturating_add(1);

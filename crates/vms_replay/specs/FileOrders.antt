@@ -2,6 +2,7 @@
 use Rattle.std.specs.Prelude.{ℕ, List}
 use Rattle.vms_world.specs.Common.{Header, Item, TableHistories}
 use Rattle.vms_file_order.specs.Common.{IsFileOrderPhase}
+use Rattle.vms_stream.specs.Common.{Reading}
 use Rattle.vms_stream.specs.declared.statuses.Status.{Status}
 use Rattle.vms_world.specs.declared.worlds.World.{World}
 use Rattle.vms_replay.specs.KernelRules.{normal_rule, pressure_rule}
@@ -13,6 +14,6 @@ abbrev pub makes_in_order : Header → World → List Item → TableHistories �
 makes_in_order header w items hs = IsFileOrderPhase header pressure_rule normal_rule w items hs
 
 -- what each status of `replay` says of the bytes taken and written: phases in file order were made
-pub record SaysReplay (status : Status) (taken written : List ℕ) (at_end : Type 0) : Type 0 where
+pub record SaysReplay (status : Status) (taken written : List ℕ) (reading : Reading) : Type 0 where
   pub made : List PastPhase
-  pub says : SaysReplayed makes_in_order made status taken written at_end
+  pub says : SaysReplayed makes_in_order made status taken written reading

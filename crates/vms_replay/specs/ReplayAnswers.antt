@@ -2,7 +2,7 @@
 use Rattle.std.specs.Prelude.{ℕ, List, Option}
 use Rattle.vms_world.specs.Common.{Header, lines_of, Item, TableHistories}
 use Rattle.vms_command.specs.Common.{shown_given, following}
-use Rattle.vms_stream.specs.Common.{Grows, SaysPhased, waiting, TakesAndWrites, WritesTextsOf, lines_taken}
+use Rattle.vms_stream.specs.Common.{Grows, Reading, SaysPhased, waiting, TakesAndWrites, WritesTextsOf, lines_taken}
 use Rattle.vms_stream.specs.declared.statuses.Status.{Status}
 use Rattle.vms_stream.specs.declared.statuses.Status.TheVariants.{Done, Refused, ReadFault}
 use Rattle.vms_world.specs.declared.worlds.World.{World}
@@ -23,17 +23,19 @@ AreMadeWith Makes _ taken at_end made = AreFirstTaken Makes taken at_end made
 -- lead through the segments of the text, each by the kernel's rules and with all laws at each of its moments, and that
 -- the texts of the lines were written in the order of the lines
 pub record SaysReplayed (Makes : Header → World → List Item → TableHistories → Type 0) (made : List PastPhase)
-    (status : Status) (taken written : List ℕ) (at_end : Type 0) : Type 0 where
+    (status : Status) (taken written : List ℕ) (reading : Reading) : Type 0 where
   pub says : SaysPhased (waiting (following (replaying Makes))) (shown_given shown_by_replay) made status taken written
-      at_end
-  pub phases : AreMadeWith Makes status taken at_end made
-  pub texts : WritesTextsOf (following (replaying Makes)) made status taken written at_end
+      reading
+  pub phases : AreMadeWith Makes status taken reading.at_end made
+  pub texts : WritesTextsOf (following (replaying Makes)) made status taken written reading.at_end
 
 -- a replay took bytes from its source, wrote bytes to its sink, and made phases, of which `Makes` says which histories
 -- they may have. What its engine keeps grew by them
 pub record AnswersReplayed {S K : Type 0} (Makes : Header → World → List Item → TableHistories → Type 0)
-    (kept kept' : Option (List PastPhase)) (left : S → Option (List ℕ)) (read_faults : S → ℕ)
-    (held : K → Option (List ℕ)) (write_faults : K → ℕ) (src src' : S) (out out' : K) (status : Status) : Type 0 where
+    (kept kept' : Option (List PastPhase)) (left : S → Option (List ℕ)) (read_faults read_calls : S → ℕ)
+    (held : K → Option (List ℕ)) (write_faults write_calls : K → ℕ) (src src' : S) (out out' : K) (status : Status)
+    : Type 0 where
   pub made : List PastPhase
   pub grows : Grows kept kept' made
-  pub answers : TakesAndWrites left read_faults held write_faults src src' out out' status (SaysReplayed Makes made)
+  pub answers : TakesAndWrites left read_faults read_calls held write_faults write_calls src src' out out' status
+      (SaysReplayed Makes made)

@@ -16,8 +16,8 @@ pub fn replay_trace<E: Engine, S: Source, K: Sink>(
     src: &mut S,
     out: &mut K,
 ) -> (Status, E)
-    ensures { AnswersReplayed E.Makes (E.made engine) (E.made result.1) S.remaining S.faults K.written K.faults src.old
-        src.new out.old out.new result.0 }
+    ensures { AnswersReplayed E.Makes (E.made engine) (E.made result.1) S.remaining S.faults S.calls K.written K.faults
+        K.calls src.old src.new out.old out.new result.0 }
 {
     phases_lead_through_texts::<E>();
     follow::<Replay<E>, S, K>(alloc, engine, src, out)
@@ -26,7 +26,7 @@ pub fn replay_trace<E: Engine, S: Source, K: Sink>(
 /// The command `replay`: makes each phase of a trace in file order, and writes refusals, answers and reports in the
 /// order of its lines.
 pub fn tool_replay<S: Source, K: Sink>(alloc: Global, src: &mut S, out: &mut K) -> Status
-    ensures { TakesAndWrites S.remaining S.faults K.written K.faults src.old src.new out.old out.new
+    ensures { TakesAndWrites S.remaining S.faults S.calls K.written K.faults K.calls src.old src.new out.old out.new
         result SaysReplay }
 {
     replay_trace(alloc, FileOrder, src, out).0

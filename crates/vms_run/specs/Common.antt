@@ -2,4 +2,4 @@
 pub use Rattle.vms_run.specs.Threads.{makes_on_threads}
 pub use Rattle.vms_run.specs.RunPhases.{facts_told}
 pub use Rattle.vms_run.specs.Runners.{IsOneRun, IsRun}
-pub use Rattle.vms_run.specs.MadeTexts.{AnswersMade}
+pub use Rattle.vms_run.specs.MadeTexts.{AnswersMade, reading_made}

@@ -65,8 +65,8 @@ impl<
         × AreKernelRules N.accepts N.answers P.accepts P.answers run.normal run.pressure };
 
     ghost gives = { λ run r. (r.2.ghost_name ≡ run.src.ghost_name) × (r.3.ghost_name ≡ run.out.ghost_name)
-        × AnswersReplayed makes_on_threads (Some run.kept) (Some r.1) S.remaining S.faults K.written K.faults
-        run.src.now r.2.now run.out.now r.3.now r.0 };
+        × AnswersReplayed makes_on_threads (Some run.kept) (Some r.1) S.remaining S.faults S.calls K.written K.faults
+        K.calls run.src.now r.2.now run.out.now r.3.now r.0 };
 
     fn run<'s>(self, scope: &'s Scope<'s, E>) -> (Status, Histories, &'a mut S, &'b mut K) {
         let ScopedRun {
@@ -112,8 +112,8 @@ fn run_trace<F: PhaseMaker, S: Source, K: Sink>(
     src: &mut S,
     out: &mut K,
 ) -> (Status, Histories)
-    ensures { AnswersReplayed makes_on_threads (Some kept) (Some result.1) S.remaining S.faults K.written K.faults
-        src.old src.new out.old out.new result.0 }
+    ensures { AnswersReplayed makes_on_threads (Some kept) (Some result.1) S.remaining S.faults S.calls K.written
+        K.faults K.calls src.old src.new out.old out.new result.0 }
 {
     let (status, engine) = replay_trace(alloc, OnThreads::make(maker, kept), src, out);
     (status, engine.into_histories())
@@ -145,8 +145,8 @@ where
     S: Source,
     K: Sink,
     requires { AreKernelRules N.accepts N.answers P.accepts P.answers normal pressure }
-    ensures { AnswersReplayed makes_on_threads (Some kept) (Some result.1) S.remaining S.faults K.written K.faults
-        src.old src.new out.old out.new result.0 }
+    ensures { AnswersReplayed makes_on_threads (Some kept) (Some result.1) S.remaining S.faults S.calls K.written
+        K.faults K.calls src.old src.new out.old out.new result.0 }
 {
     let host = Host { rt, alloc, gate };
     let work = |job: StandingJob<N, P>| -> Result<LaneDone, Memory>
@@ -178,8 +178,8 @@ where
     K: Sink,
     requires work { W.may_make work.now }
     requires rules { AreKernelRules N.accepts N.answers P.accepts P.answers normal pressure }
-    ensures { AnswersReplayed makes_on_threads (Some kept) (Some result.1) S.remaining S.faults K.written K.faults
-        src.old src.new out.old out.new result.0 }
+    ensures { AnswersReplayed makes_on_threads (Some kept) (Some result.1) S.remaining S.faults S.calls K.written
+        K.faults K.calls src.old src.new out.old out.new result.0 }
 {
     let (threads, queue) = no_threads(alloc);
     run_queued(
@@ -211,8 +211,8 @@ where
     K: Sink,
     requires work { W.may_make work.now }
     requires rules { AreKernelRules N.accepts N.answers P.accepts P.answers normal pressure }
-    ensures { AnswersReplayed makes_on_threads (Some kept) (Some result.1) S.remaining S.faults K.written K.faults
-        src.old src.new out.old out.new result.0 }
+    ensures { AnswersReplayed makes_on_threads (Some kept) (Some result.1) S.remaining S.faults S.calls K.written
+        K.faults K.calls src.old src.new out.old out.new result.0 }
 {
     run_begun(
         thread::scope_env(),
@@ -264,8 +264,8 @@ where
     requires work { W.may_make work.now }
     requires runs { RunsPhases (L.accepts apart) (L.returns apart) }
     requires rules { AreKernelRules N.accepts N.answers P.accepts P.answers normal pressure }
-    ensures { AnswersReplayed makes_on_threads (Some kept) (Some result.1) S.remaining S.faults K.written K.faults
-        src.old src.new out.old out.new result.0 }
+    ensures { AnswersReplayed makes_on_threads (Some kept) (Some result.1) S.remaining S.faults S.calls K.written
+        K.faults K.calls src.old src.new out.old out.new result.0 }
 {
     let run = ScopedRun {
         rt,

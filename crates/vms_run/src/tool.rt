@@ -27,8 +27,8 @@ pub fn tool_run<R: Threads + Wait + Sync, G: Gate, S: Source, K: Sink>(
     gate: &G,
     histories: &mut Histories,
 ) -> Status
-    ensures { AnswersReplayed makes_on_threads (Some histories.old) (Some histories.new) S.remaining S.faults K.written
-        K.faults src.old src.new out.old out.new result }
+    ensures { AnswersReplayed makes_on_threads (Some histories.old) (Some histories.new) S.remaining S.faults S.calls
+        K.written K.faults K.calls src.old src.new out.old out.new result }
 {
     let kept = replace(histories, Histories::make(alloc));
     let (status, made) = run_scoped(
@@ -55,7 +55,7 @@ pub fn tool_gen<R: Threads + Wait + Sync, G: Gate, K: Sink>(
     histories: &mut Histories,
 ) -> Status
     requires { InRange numbers }
-    ensures { AnswersMade numbers histories.old histories.new K.written K.faults out.old out.new result }
+    ensures { AnswersMade numbers histories.old histories.new K.written K.faults K.calls out.old out.new result }
 {
     let mut src = MadeSource::make(numbers);
     tool_run(rt, alloc, &mut src, out, gate, histories)

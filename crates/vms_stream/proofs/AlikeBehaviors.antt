@@ -2,8 +2,9 @@
 use Rattle.std.proofs.Common.{◌≡◌, ℕ, List, [], ◌∷◌, ◌++◌, Option, inl, inr, refl, sym, ap, ap₂, ◌∙◌}
 use Rattle.vms_stream.specs.declared.statuses.Status.{Status}
 use Rattle.vms_stream.specs.declared.statuses.Status.TheVariants as statuses
-use Rattle.vms_stream.specs.Common.{BeginsOutput, Ends, GoesOn, Halts, IsDue, IsLastPiece, Oversteps, Says, Behavior}
-use Rattle.vms_stream.specs.Common.{first_halt, halted, last_words, output, printed, printed_from, state_after}
+use Rattle.vms_stream.specs.Common.{BeginsOutput, Ends, GoesOn, Halts, IsDue, IsLastPiece, Oversteps, Reading, Says}
+use Rattle.vms_stream.specs.Common.{Behavior, first_halt, halted, last_words, output, printed, printed_from}
+use Rattle.vms_stream.specs.Common.{state_after}
 use Rattle.vms_text.specs.Common.{lines_of}
 
 -- from states that are alike two behaviors do the same at each line and at the end, and come to states that are alike
@@ -57,19 +58,21 @@ module _ {S T : Type 0} (behavior : Behavior S) (other : Behavior T) (alike : S 
       (both.same_last (state_after behavior behavior.start lines) (state_after other other.start lines)
       (alike_after lines)))
 
-  IsLastPiece-alike : {taken : List ℕ} → IsLastPiece behavior taken → IsLastPiece other taken
+  IsLastPiece-alike : {taken : List ℕ} {reading : Reading} → IsLastPiece behavior taken reading
+      → IsLastPiece other taken reading
   IsLastPiece-alike piece = record {
     before = piece.before;
     piece = piece.piece;
     pieces = piece.pieces;
+    by_call = piece.by_call;
     one_piece = piece.one_piece;
     within_before = piece.within_before;
     none_before = sym (halted-both _) ∙ piece.none_before;
   }
 
-  Halts-alike : (halt : Status) (taken written : List ℕ) (at_end : Type 0) → Halts behavior halt taken written at_end
-      → Halts other halt taken written at_end
-  Halts-alike halt taken written at_end halts = record {
+  Halts-alike : (halt : Status) (taken written : List ℕ) (reading : Reading) → Halts behavior halt taken written reading
+      → Halts other halt taken written reading
+  Halts-alike halt taken written reading halts = record {
     lines = halts.lines;
     judged = halts.judged;
     halt_is = sym (halted-both halts.lines) ∙ halts.halt_is;
@@ -77,8 +80,9 @@ module _ {S T : Type 0} (behavior : Behavior S) (other : Behavior T) (alike : S 
     last_piece = IsLastPiece-alike halts.last_piece;
   }
 
-  Oversteps-alike : (taken written : List ℕ) → Oversteps behavior taken written → Oversteps other taken written
-  Oversteps-alike taken written oversteps = record {
+  Oversteps-alike : (taken written : List ℕ) (reading : Reading) → Oversteps behavior taken written reading
+      → Oversteps other taken written reading
+  Oversteps-alike taken written reading oversteps = record {
     beyond = oversteps.beyond;
     none_halts = sym (halted-both _) ∙ oversteps.none_halts;
     whole_output = oversteps.whole_output ∙ printed-both _;
@@ -97,12 +101,12 @@ module _ {S T : Type 0} (behavior : Behavior S) (other : Behavior T) (alike : S 
   IsDue-alike taken text at_end (inl lines) = inl (lines ∙ printed-both _)
   IsDue-alike taken text at_end (inr all) = inr (all.0, all.1, all.2 ∙ output-both (lines_of taken))
 
-  BeginsOutput-alike : (taken written : List ℕ) (at_end : Type 0) → BeginsOutput behavior taken written at_end
-      → BeginsOutput other taken written at_end
+  BeginsOutput-alike : (taken written : List ℕ) (reading : Reading) → BeginsOutput behavior taken written reading
+      → BeginsOutput other taken written reading
   unfolding IsLastPiece-alike
-  BeginsOutput-alike taken written at_end begins = record {
+  BeginsOutput-alike taken written reading begins = record {
     unwritten = begins.unwritten;
-    due = IsDue-alike taken (written ++ begins.unwritten) at_end begins.due;
+    due = IsDue-alike taken (written ++ begins.unwritten) reading.at_end begins.due;
     last_piece = IsLastPiece-alike begins.last_piece;
     after_above = begins.after_above;
     above_written = begins.above_written
@@ -125,17 +129,19 @@ module _ {S T : Type 0} (behavior : Behavior S) (other : Behavior T) (alike : S 
           shown = also s t (alike_after lines) ends.shown;
         }
 
-    pub Says-alike : (status : Status) (taken written : List ℕ) (at_end : Type 0)
-        → Says behavior shows status taken written at_end → Says other shows' status taken written at_end
-    Says-alike statuses.Done taken written at_end says = Ends-alike _ taken written at_end says
-    Says-alike statuses.Words taken written at_end says = says
-    Says-alike statuses.Header taken written at_end (inl halts) = inl (Halts-alike _ taken written at_end halts)
-    Says-alike statuses.Header taken written at_end (inr ends) = inr (Ends-alike _ taken written at_end ends)
-    Says-alike statuses.Refused taken written at_end says = Ends-alike _ taken written at_end says
-    Says-alike statuses.ReadFault taken written at_end says = GoesOn-alike taken written says
-    Says-alike statuses.WriteFault taken written at_end says = BeginsOutput-alike taken written at_end says
-    Says-alike statuses.Memory taken written at_end says = BeginsOutput-alike taken written at_end says
-    Says-alike statuses.TooLong taken written at_end (inl halts) = inl (Halts-alike _ taken written at_end halts)
-    Says-alike statuses.TooLong taken written at_end (inr oversteps) = inr (Oversteps-alike taken written oversteps)
-    Says-alike statuses.NotCertified taken written at_end (inl halts) = inl (Halts-alike _ taken written at_end halts)
-    Says-alike statuses.NotCertified taken written at_end (inr ends) = inr (Ends-alike _ taken written at_end ends)
+    pub Says-alike : (status : Status) (taken written : List ℕ) (reading : Reading)
+        → Says behavior shows status taken written reading → Says other shows' status taken written reading
+    Says-alike statuses.Done taken written reading says = Ends-alike _ taken written reading.at_end says
+    Says-alike statuses.Words taken written reading says = says
+    Says-alike statuses.Header taken written reading (inl halts) = inl (Halts-alike _ taken written reading halts)
+    Says-alike statuses.Header taken written reading (inr ends) = inr (Ends-alike _ taken written reading.at_end ends)
+    Says-alike statuses.Refused taken written reading says = Ends-alike _ taken written reading.at_end says
+    Says-alike statuses.ReadFault taken written reading says = GoesOn-alike taken written says
+    Says-alike statuses.WriteFault taken written reading says = BeginsOutput-alike taken written reading says
+    Says-alike statuses.Memory taken written reading says = BeginsOutput-alike taken written reading says
+    Says-alike statuses.TooLong taken written reading (inl halts) = inl (Halts-alike _ taken written reading halts)
+    Says-alike statuses.TooLong taken written reading (inr oversteps) =
+        inr (Oversteps-alike taken written reading oversteps)
+    Says-alike statuses.NotCertified taken written reading (inl halts) = inl (Halts-alike _ taken written reading halts)
+    Says-alike statuses.NotCertified taken written reading (inr ends) =
+        inr (Ends-alike _ taken written reading.at_end ends)

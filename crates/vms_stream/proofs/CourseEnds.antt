@@ -4,7 +4,7 @@ use Rattle.std.proofs.Common.{refl, sym, ap, subst, ◌∙◌, append_assoc, app
 use Rattle.vms_stream.specs.declared.courses.Course.{Course}
 use Rattle.vms_stream.specs.declared.statuses.Status.{Status}
 use Rattle.vms_stream.specs.declared.statuses.Status.TheVariants.{ReadFault, WriteFault}
-use Rattle.vms_stream.specs.Common.{BeginsOutput, Ends, FaultsOfSink, FaultsOfSource, IsLastPiece, IsCourse}
+use Rattle.vms_stream.specs.Common.{BeginsOutput, Ends, FaultsOfSink, FaultsOfSource, IsLastPiece, Reading, IsCourse}
 use Rattle.vms_stream.specs.Common.{lines_judged, Closes, Behavior, MayEnd, state_after, halted, printed, output}
 use Rattle.vms_stream.specs.Common.{whole_lines, partial_line}
 use Rattle.vms_stream.proofs.BehaviorLaws.{halted-first, output-open, printed-begins}
@@ -13,33 +13,37 @@ use Rattle.vms_stream.proofs.StepOutcomes.{begins_at_end, no_piece}
 use Rattle.vms_text.specs.Common.{lines_of}
 
 -- after calls of which none failed
-pub reads_after : {R : Type 0} (left : R → Option (List ℕ)) (faults : R → ℕ) (src src' src'' : R) (status : Status)
+pub reads_after : {R : Type 0} (left : R → Option (List ℕ)) (faults calls : R → ℕ) (src src' src'' : R)
+    (status : Status)
     → faults src' ≡ faults src
-    → FaultsOfSource left faults status src' src'' → FaultsOfSource left faults status src src''
-reads_after left faults src src' src'' ReadFault none last = record {
+    → FaultsOfSource left faults calls status src' src'' → FaultsOfSource left faults calls status src src''
+reads_after left faults calls src src' src'' ReadFault none last = record {
   failing = last.failing;
   none_before = last.none_before ∙ none;
   once = last.once;
+  last = last.last;
   none_after = last.none_after;
 }
-reads_after left faults src src' src'' _ none same = same ∙ none
+reads_after left faults calls src src' src'' _ none same = same ∙ none
 
-pub writes_after : {K : Type 0} (held : K → Option (List ℕ)) (faults : K → ℕ) (out out' out'' : K) (status : Status)
+pub writes_after : {K : Type 0} (held : K → Option (List ℕ)) (faults calls : K → ℕ) (out out' out'' : K)
+    (status : Status)
     → faults out' ≡ faults out
-    → FaultsOfSink held faults status out' out'' → FaultsOfSink held faults status out out''
-writes_after held faults out out' out'' WriteFault none last = record {
+    → FaultsOfSink held faults calls status out' out'' → FaultsOfSink held faults calls status out out''
+writes_after held faults calls out out' out'' WriteFault none last = record {
   failing = last.failing;
   none_before = last.none_before ∙ none;
   once = last.once;
+  last = last.last;
   none_after = last.none_after;
 }
-writes_after held faults out out' out'' _ none same = same ∙ none
+writes_after held faults calls out out' out'' _ none same = same ∙ none
 
 -- no read failed
-pub none_read_fails : {R : Type 0} (left : R → Option (List ℕ)) (faults : R → ℕ) (src src' : R) (status : Status)
-    → status ≢ ReadFault → faults src' ≡ faults src → FaultsOfSource left faults status src src'
-none_read_fails left faults src src' ReadFault other none = absurd (other refl)
-none_read_fails left faults src src' _ other none = none
+pub none_read_fails : {R : Type 0} (left : R → Option (List ℕ)) (faults calls : R → ℕ) (src src' : R) (status : Status)
+    → status ≢ ReadFault → faults src' ≡ faults src → FaultsOfSource left faults calls status src src'
+none_read_fails left faults calls src src' ReadFault other none = absurd (other refl)
+none_read_fails left faults calls src src' _ other none = none
 
 module _ {S : Type 0} (behavior : Behavior S) (shows : S → Type 0) where
   module _ {stands : S → Type 0} (taken written : List ℕ) (course : Course)
@@ -52,8 +56,8 @@ module _ {S : Type 0} (behavior : Behavior S) (shows : S → Type 0) where
     all_written = subst (λ (b : Bool). written ≡ printed behavior behavior.start (lines_judged b taken))
         at_end is.all_written
 
-    abbrev last_piece : IsLastPiece behavior taken
-    last_piece = no_piece behavior taken is.within
+    abbrev last_piece : (reading : Reading) → reading.last_call taken [] → IsLastPiece behavior taken reading
+    last_piece reading by_call = no_piece behavior taken reading by_call is.within
         (halted-first behavior behavior.start (whole_lines taken) (lines_of (partial_line taken ++ []))
         (ap (halted behavior behavior.start) (sym (ap lines_of (sym (append-nil taken)) ∙ lines_of-parts taken []))
         ∙ none_halts))
@@ -67,10 +71,11 @@ module _ {S : Type 0} (behavior : Behavior S) (shows : S → Type 0) where
         (more.0, all_written ∙ ap (printed behavior behavior.start) parts ∙ more.1)
 
     -- there was no memory for the last words
-    abbrev pub unended : {E : Type 0} → E → BeginsOutput behavior taken (written ++ []) E
-    unended {E} ended =
-        begins_at_end behavior taken E (written ++ []) [] ended is.within
-        (append-nil (written ++ []) ∙ append-nil written ∙ all_written) last_piece above.0
+    abbrev pub unended : (reading : Reading) → reading.at_end → reading.last_call taken []
+        → BeginsOutput behavior taken (written ++ []) reading
+    unended reading ended by_call =
+        begins_at_end behavior taken reading (written ++ []) [] ended is.within
+        (append-nil (written ++ []) ∙ append-nil written ∙ all_written) (last_piece reading by_call) above.0
         (append-nil written ∙ above.1)
 
     module _ (ending : Status) (waiting : List ℕ)
@@ -88,9 +93,9 @@ module _ {S : Type 0} (behavior : Behavior S) (shows : S → Type 0) where
           ∙ sym (output-open behavior (lines_of taken) none_halts)
 
       -- the last write failed
-      abbrev pub unwritten_end : {E : Type 0} → (n : ℕ) → E
-          → BeginsOutput behavior taken (written ++ take n waiting) E
-      unwritten_end n ended = record {
+      abbrev pub unwritten_end : (n : ℕ) (reading : Reading) → reading.at_end → reading.last_call taken []
+          → BeginsOutput behavior taken (written ++ take n waiting) reading
+      unwritten_end n reading ended by_call = record {
         unwritten = drop n waiting;
         due = inr (
           ended,
@@ -98,7 +103,7 @@ module _ {S : Type 0} (behavior : Behavior S) (shows : S → Type 0) where
           append_assoc written (take n waiting) (drop n waiting)
               ∙ ap (λ (rest : List ℕ). written ++ rest) (take-append-drop n waiting) ∙ whole,
         );
-        last_piece = last_piece;
+        last_piece = last_piece reading by_call;
         after_above = above.0 ++ take n waiting;
         above_written = ap (λ (front : List ℕ). front ++ take n waiting) above.1
             ∙ append_assoc (printed behavior behavior.start (whole_lines taken)) above.0 (take n waiting);

@@ -1,4 +1,5 @@
 pub mod TwoPieces
+pub mod LastCalls
 pub mod LastNewline
 pub mod BehaviorLaws
 pub mod AlikeBehaviors

@@ -1,7 +1,7 @@
 -- The end of a course of a command whose phases have outcomes.
 use Rattle.std.proofs.Common.{◌≡◌, ◌≢◌, ℕ, Bool, true, false, List, [], ◌++◌, take, inl, inr, Option, Ok, Err, Result}
 use Rattle.std.proofs.Common.{refl, sym, ap, subst, ◌∙◌, append-nil, arith}
-use Rattle.std.specs.Io.KnownBytes.{Appends, Consumes, IsAtEnd}
+use Rattle.std.specs.Io.KnownBytes.{Appends, Consumes}
 use Rattle.std.proofs.KnownBytes.{Appends-nil, Appends-trans, Consumes-nil, Consumes-trans}
 use Rattle.vms_stream.specs.declared.courses.Course.{Course}
 use Rattle.vms_stream.specs.declared.statuses.Status.{Status}
@@ -12,9 +12,10 @@ use Rattle.vms_stream.specs.Common.{Behavior, Ends, FaultsOfSink, FaultsOfSource
 use Rattle.vms_stream.specs.Common.{lines_judged, status_in, FinishesPhased, IsCourse, IsPhasedCourse, StepsPhased}
 use Rattle.vms_stream.specs.Common.{Closes, Grows, StandsOn, shown_on, partial_line, whole_lines, PhasedBehavior, Way}
 use Rattle.vms_stream.specs.Common.{with_outcomes, On, Short, HasAllOutcomes, OutcomesLead, OutcomesLeadToEnd}
-use Rattle.vms_stream.specs.Common.{OutcomesLeadTaken, SaysPhased, UsedAtEnd, AnswersPhased}
+use Rattle.vms_stream.specs.Common.{OutcomesLeadTaken, Reading, reading_of, SaysPhased, UsedAtEnd, AnswersPhased}
 use Rattle.vms_stream.proofs.CourseEnds.{ends, ends_how, none_read_fails, reads_after, unended, unwritten_end}
 use Rattle.vms_stream.proofs.CourseEnds.{writes_after}
+use Rattle.vms_stream.proofs.LastCalls.{LastCall-none}
 use Rattle.vms_stream.proofs.StepOutcomes.{begins, no_piece}
 use Rattle.vms_stream.proofs.TwoPieces.{lines_of-parts}
 use Rattle.vms_text.specs.Common.{lines_of}
@@ -58,29 +59,30 @@ module _ {S O : Type 0} (phased : PhasedBehavior S O) (shows : S → Option O �
         course'.stands_after)))
 
     module _ (further : List O) (made made' : Option (List O)) (held : Option (List ℕ))
-        (grows : Grows made made' further) (used : (s : S) → stands s → UsedAtEnd phased s further) where
+        (grows : Grows made made' further) (used : (s : S) → stands s → UsedAtEnd phased s further) (reading : Reading)
+        (ended : reading.at_end) (by_call : reading.last_call taken []) where
       abbrev behavior : Behavior (Way S O)
       behavior = with_outcomes phased (outcomes ++ further)
 
       abbrev now : IsCourse behavior (StandsWith stands further) taken written course
       now = longer phased shows outcomes taken written course is further
 
-      leads_taken : {E : Type 0} → E → OutcomesLeadTaken phased (outcomes ++ further) taken E
-      leads_taken ended = inr (ended, is.is_course.within, leads_end further used)
+      leads_taken : OutcomesLeadTaken phased (outcomes ++ further) taken reading.at_end
+      leads_taken = inr (ended, is.is_course.within, leads_end further used)
 
       -- there was no memory for the last words
       pub FinishesPhased-unended : (stop : Status) → stop ≡ Memory
-          → FinishesPhased phased shows outcomes taken written made made' held held (Err stop)
+          → FinishesPhased phased shows outcomes taken written made made' held held reading (Err stop)
       FinishesPhased-unended stop memory = record {
         further = further;
         moved = [];
         grows = grows;
         appends = Appends-nil held;
-        outcome = λ left ended.
+        outcome =
             subst (λ (s : Status). SaysPhased phased shows (outcomes ++ further) s taken (written ++ [])
-            (IsAtEnd left)) (sym memory) (record {
-              says = unended behavior (shown_on phased shows) taken written course now at_end ended;
-              made = record { leads = leads_taken ended; above = whole_end further };
+            reading) (sym memory) (record {
+              says = unended behavior (shown_on phased shows) taken written course now at_end reading ended by_call;
+              made = record { leads = leads_taken; above = whole_end further };
             });
       }
 
@@ -90,24 +92,24 @@ module _ {S O : Type 0} (phased : PhasedBehavior S O) (shows : S → Option O �
         -- the last write failed
         pub FinishesPhased-unwritten : (n : ℕ) (stop : Status) → Appends held held' (take n waiting)
             → stop ≡ WriteFault
-            → FinishesPhased phased shows outcomes taken written made made' held held' (Err stop)
+            → FinishesPhased phased shows outcomes taken written made made' held held' reading (Err stop)
         FinishesPhased-unwritten n stop appends cause = record {
           further = further;
           moved = take n waiting;
           grows = grows;
           appends = appends;
-          outcome = λ left ended.
+          outcome =
               subst (λ (s : Status). SaysPhased phased shows (outcomes ++ further) s taken (written ++ take n waiting)
-              (IsAtEnd left)) (sym cause) (record {
+              reading) (sym cause) (record {
                 says = unwritten_end behavior (shown_on phased shows) taken written course now at_end ending waiting
-                    closes n ended;
-                made = record { leads = leads_taken ended; above = whole_end further };
+                    closes n reading ended by_call;
+                made = record { leads = leads_taken; above = whole_end further };
               });
         }
 
-        says_ended : {E : Type 0} (e : Status) → MayEnd e
-            → Ends behavior (shown_on phased shows) e taken (written ++ waiting) E
-            → SaysPhased phased shows (outcomes ++ further) e taken (written ++ waiting) E
+        says_ended : (e : Status) → MayEnd e
+            → Ends behavior (shown_on phased shows) e taken (written ++ waiting) reading.at_end
+            → SaysPhased phased shows (outcomes ++ further) e taken (written ++ waiting) reading
         says_ended Done may done = record { says = done; made = leads_end further used }
         says_ended Refused may done = record { says = done; made = leads_end further used }
         says_ended Header may done = record { says = inr done; made = leads_end further used }
@@ -116,13 +118,13 @@ module _ {S O : Type 0} (phased : PhasedBehavior S O) (shows : S → Option O �
 
         -- all was written
         pub FinishesPhased-ended : Appends held held' waiting
-            → FinishesPhased phased shows outcomes taken written made made' held held' (Ok ending)
+            → FinishesPhased phased shows outcomes taken written made made' held held' reading (Ok ending)
         FinishesPhased-ended appends = record {
           further = further;
           moved = waiting;
           grows = grows;
           appends = appends;
-          outcome = λ left ended. says_ended ending
+          outcome = says_ended ending
               (ends_how behavior (shown_on phased shows) taken written course now at_end ending waiting closes)
               (ends behavior (shown_on phased shows) taken written course now at_end ending waiting closes ended);
         }
@@ -163,12 +165,14 @@ module _ {S O : Type 0} (phased : PhasedBehavior S O) (shows : S → Option O �
 
   -- there was no memory to begin
   pub AnswersPhased-unbegun : {R K : Type 0} (made : Option (List O)) (left : R → Option (List ℕ))
-      (read_faults : R → ℕ) (held : K → Option (List ℕ)) (write_faults : K → ℕ) (src : R) (out : K) (stop : Status)
+      (read_faults read_calls : R → ℕ) (held : K → Option (List ℕ)) (write_faults write_calls : K → ℕ) (src : R)
+      (out : K) (stop : Status)
       → stop ≡ Memory
-      → AnswersPhased phased shows made made left read_faults held write_faults src src out out stop
-  AnswersPhased-unbegun made left read_faults held write_faults src out stop memory =
-      subst (λ (s : Status). AnswersPhased phased shows made made left read_faults held write_faults src src out out
-      s) (sym memory) (record {
+      → AnswersPhased phased shows made made left read_faults read_calls held write_faults write_calls src src out out
+      stop
+  AnswersPhased-unbegun made left read_faults read_calls held write_faults write_calls src out stop memory =
+      subst (λ (s : Status). AnswersPhased phased shows made made left read_faults read_calls held write_faults
+      write_calls src src out out s) (sym memory) (record {
         outcomes = [];
         grows = Grows-nil made;
         answers = record {
@@ -177,8 +181,9 @@ module _ {S O : Type 0} (phased : PhasedBehavior S O) (shows : S → Option O �
           consumes = Consumes-nil (left src);
           appends = Appends-nil (held out);
           answer = record {
-            says = begins (with_outcomes phased []) [] (IsAtEnd (left src)) [] [] [] [] refl refl
-                (no_piece (with_outcomes phased []) [] (omega arith) refl) [] refl;
+            says = begins (with_outcomes phased []) [] (reading_of left read_calls src src) [] [] [] [] refl refl
+                (no_piece (with_outcomes phased []) [] (reading_of left read_calls src src)
+                (LastCall-none left read_calls src src [] (Consumes-nil (left src))) (omega arith) refl) [] refl;
             made = record { leads = inl (OutcomesLead-none phased phased.start []); above = tt };
           };
           reads = refl;
@@ -187,18 +192,20 @@ module _ {S O : Type 0} (phased : PhasedBehavior S O) (shows : S → Option O �
       })
 
   -- after bytes were taken and written and phases made, and no call had failed
-  module _ {R K : Type 0} (left : R → Option (List ℕ)) (read_faults : R → ℕ) (held : K → Option (List ℕ))
-      (write_faults : K → ℕ) (outcomes : List O) (taken written : List ℕ) (made made' made'' : Option (List O))
-      (src src' src'' : R) (out out' out'' : K) (grows : Grows made made' outcomes)
+  module _ {R K : Type 0} (left : R → Option (List ℕ)) (read_faults read_calls : R → ℕ)
+      (held : K → Option (List ℕ)) (write_faults write_calls : K → ℕ) (outcomes : List O) (taken written : List ℕ)
+      (made made' made'' : Option (List O)) (src src' src'' : R) (out out' out'' : K)
+      (grows : Grows made made' outcomes)
       (consumes : Consumes (left src) (left src') taken) (appends : Appends (held out) (held out') written)
       (none_read : read_faults src' ≡ read_faults src) (none_wrote : write_faults out' ≡ write_faults out) where
     pub AnswersPhased-stopped : (stands : S → Type 0) (course : Course) (stop : Status)
         → StepsPhased phased stands shows outcomes taken written course made' made'' (left src') (left src'')
         (held out')
-        (held out'') (Err stop)
-        → FaultsOfSource left read_faults stop src' src''
-        → FaultsOfSink held write_faults stop out' out''
-        → AnswersPhased phased shows made made'' left read_faults held write_faults src src'' out out'' stop
+        (held out'') (reading_of left read_calls src src'') (Err stop)
+        → FaultsOfSource left read_faults read_calls stop src' src''
+        → FaultsOfSink held write_faults write_calls stop out' out''
+        → AnswersPhased phased shows made made'' left read_faults read_calls held write_faults write_calls src src'' out
+        out'' stop
     AnswersPhased-stopped stands course stop steps reads writes = record {
       outcomes = outcomes ++ steps.further;
       grows = Grows-trans made made' made'' outcomes steps.further grows steps.grows;
@@ -208,18 +215,18 @@ module _ {S O : Type 0} (phased : PhasedBehavior S O) (shows : S → Option O �
         consumes = Consumes-trans (left src) (left src') (left src'') taken steps.more consumes steps.consumes;
         appends = Appends-trans (held out) (held out') (held out'') written steps.moved appends steps.appends;
         answer = steps.outcome;
-        reads = reads_after left read_faults src src' src'' stop none_read reads;
-        writes = writes_after held write_faults out out' out'' stop none_wrote writes;
+        reads = reads_after left read_faults read_calls src src' src'' stop none_read reads;
+        writes = writes_after held write_faults write_calls out out' out'' stop none_wrote writes;
       };
     }
 
-    pub AnswersPhased-ended : (result : Result Status Status) → IsAtEnd (left src')
-        → FinishesPhased phased shows outcomes taken written made' made'' (held out') (held out'') result
-        → status_in result ≢ statuses.ReadFault
-        → FaultsOfSink held write_faults (status_in result) out' out''
-        → AnswersPhased phased shows made made'' left read_faults held write_faults src src' out out''
-        (status_in result)
-    AnswersPhased-ended result ended ends reads writes = record {
+    pub AnswersPhased-ended : (result : Result Status Status)
+        → FinishesPhased phased shows outcomes taken written made' made'' (held out') (held out'')
+        (reading_of left read_calls src src') result → status_in result ≢ statuses.ReadFault
+        → FaultsOfSink held write_faults write_calls (status_in result) out' out''
+        → AnswersPhased phased shows made made'' left read_faults read_calls held write_faults write_calls src src' out
+        out'' (status_in result)
+    AnswersPhased-ended result ends reads writes = record {
       outcomes = outcomes ++ ends.further;
       grows = Grows-trans made made' made'' outcomes ends.further grows ends.grows;
       answers = record {
@@ -227,8 +234,8 @@ module _ {S O : Type 0} (phased : PhasedBehavior S O) (shows : S → Option O �
         written = written ++ ends.moved;
         consumes = consumes;
         appends = Appends-trans (held out) (held out') (held out'') written ends.moved appends ends.appends;
-        answer = ends.outcome (left src') ended;
-        reads = none_read_fails left read_faults src src' (status_in result) reads none_read;
-        writes = writes_after held write_faults out out' out'' (status_in result) none_wrote writes;
+        answer = ends.outcome;
+        reads = none_read_fails left read_faults read_calls src src' (status_in result) reads none_read;
+        writes = writes_after held write_faults write_calls out out' out'' (status_in result) none_wrote writes;
       };
     }

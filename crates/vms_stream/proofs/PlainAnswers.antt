@@ -1,7 +1,7 @@
 -- For other crates too: a command that makes no phase has the clauses of its plain behavior.
 use Rattle.std.proofs.Common.{◌≡◌, ℕ, Bool, List, [], Option, Some, None, refl, ap, subst, ◌∙◌, false}
 use Rattle.vms_stream.specs.declared.statuses.Status.{Status}
-use Rattle.vms_stream.specs.Common.{TakesAndWrites, Says, PhasedBehavior, Way, ending_at, halt_at, last_of_way}
+use Rattle.vms_stream.specs.Common.{TakesAndWrites, Reading, Says, PhasedBehavior, Way, ending_at, halt_at, last_of_way}
 use Rattle.vms_stream.specs.Common.{next_way, printed_at, printed_last, supply, way_after, way_halts, way_prints}
 use Rattle.vms_stream.specs.Common.{way_ends, with_outcomes, On, shown_on, shown_with, AnswersPhased, AskNothing}
 use Rattle.vms_stream.specs.Common.{MakesNoPhase, plain, plain_bytes, plainly, IsAsking, LineTexts, Text, Waiting}
@@ -24,14 +24,14 @@ module _ {S O : Type 0} (phased : PhasedBehavior S O) (none : MakesNoPhase phase
         ∙ ap (λ (ends : Bool). ending_at phased s (supply ends outcomes)) (none.last s);
   }
 
-  pub Says-plain : (shows : S → Option O → Type 0) (status : Status) (taken written : List ℕ) (at_end : Type 0)
-      → Says (with_outcomes phased outcomes) (shown_on phased shows) status taken written at_end
-      → Says (plain phased) (λ s. shows s None) status taken written at_end
-  Says-plain shows status taken written at_end says =
+  pub Says-plain : (shows : S → Option O → Type 0) (status : Status) (taken written : List ℕ) (reading : Reading)
+      → Says (with_outcomes phased outcomes) (shown_on phased shows) status taken written reading
+      → Says (plain phased) (λ s. shows s None) status taken written reading
+  Says-plain shows status taken written reading says =
       Says-alike (with_outcomes phased outcomes) (plain phased) (λ way s. way ≡ On s outcomes) plain-alike
       (shown_on phased shows) (λ s. shows s None)
       (λ way s is shown. subst (λ (ends : Bool). shown_with shows s (supply ends outcomes)) (none.last s)
-      (subst (shown_on phased shows) is shown)) status taken written at_end says
+      (subst (shown_on phased shows) is shown)) status taken written reading says
 
 unless_stopped-open : (halt : Option Status) (ends : Bool) → ends ≡ false → unless_stopped halt ends ≡ false
 unless_stopped-open None ends is = is
@@ -82,25 +82,26 @@ module _ {S O : Type 0} (texts : LineTexts S O) (nothing : AskNothing texts) (ou
   }
 
   Says-plainly : (shows : Waiting S O → Option O → Type 0) (status : Status) (taken written : List ℕ)
-      (at_end : Type 0) → Says (with_outcomes phased outcomes) (shown_on phased shows) status taken written at_end
-      → Says (plainly texts) (λ s. shows (record { state = s; waits = [] }) None) status taken written at_end
-  Says-plainly shows status taken written at_end says =
+      (reading : Reading) → Says (with_outcomes phased outcomes) (shown_on phased shows) status taken written reading
+      → Says (plainly texts) (λ s. shows (record { state = s; waits = [] }) None) status taken written reading
+  Says-plainly shows status taken written reading says =
       Says-alike (with_outcomes phased outcomes) (plainly texts) (λ way s. way ≡ at s) plainly-alike
       (shown_on phased shows) (λ s. shows (record { state = s; waits = [] }) None)
       (λ way s is shown. subst (λ (ends : Bool). shown_with shows (record { state = s; waits = [] })
       (supply ends outcomes)) (nothing.last s) (subst (shown_on phased shows) is shown))
-      status taken written at_end says
+      status taken written reading says
 
 -- what a command answers that asks for nothing
 pub TakesAndWrites-plainly : {S O R K : Type 0} (texts : LineTexts S O) → AskNothing texts
     → (shows : Waiting S O → Option O → Type 0) (made made' : Option (List O)) (left : R → Option (List ℕ))
-    (read_faults : R → ℕ) (held : K → Option (List ℕ)) (write_faults : K → ℕ) (src src' : R) (out out' : K)
-    (status : Status)
-    → AnswersPhased (waiting texts) shows made made' left read_faults held write_faults src src' out out' status
-    → TakesAndWrites left read_faults held write_faults src src' out out' status
+    (read_faults read_calls : R → ℕ) (held : K → Option (List ℕ)) (write_faults write_calls : K → ℕ) (src src' : R)
+    (out out' : K) (status : Status)
+    → AnswersPhased (waiting texts) shows made made' left read_faults read_calls held write_faults write_calls src src'
+    out out' status
+    → TakesAndWrites left read_faults read_calls held write_faults write_calls src src' out out' status
     (Says (plainly texts) (λ s. shows (record { state = s; waits = [] }) None))
-TakesAndWrites-plainly texts nothing shows made made' left read_faults held write_faults src src' out out'
-    status phased =
+TakesAndWrites-plainly texts nothing shows made made' left read_faults read_calls held write_faults write_calls src src'
+    out out' status phased =
     let answers = phased.answers in
     record {
       taken = answers.taken;

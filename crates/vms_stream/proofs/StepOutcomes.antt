@@ -7,8 +7,8 @@ use Rattle.vms_io.specs.Common.{Gets}
 use Rattle.vms_stream.specs.declared.courses.Course.{Course}
 use Rattle.vms_stream.specs.declared.statuses.Status.{Status}
 use Rattle.vms_stream.specs.Common.{most_bytes, lines_taken, BeginsOutput, GoesOn, Halts, AreLinesTaken, IsLastPiece}
-use Rattle.vms_stream.specs.Common.{Oversteps, IsCourse, lines_held, lines_judged, TakesLines, Behavior, state_after}
-use Rattle.vms_stream.specs.Common.{halted, printed, output, whole_lines, partial_line}
+use Rattle.vms_stream.specs.Common.{Oversteps, Reading, IsCourse, lines_held, lines_judged, TakesLines, Behavior}
+use Rattle.vms_stream.specs.Common.{state_after, halted, printed, output, whole_lines, partial_line}
 use Rattle.vms_stream.proofs.PieceLines.{lines_counted, lines_counted-within, lines_both}
 use Rattle.vms_stream.proofs.BehaviorLaws.{output-begins, printed-begins}
 use Rattle.vms_stream.proofs.TwoPieces.{partial_line-append}
@@ -17,13 +17,13 @@ use Rattle.vms_text.specs.Common.{lines_of}
 
 module _ {S : Type 0} (behavior : Behavior S) where
   -- what the first of the whole lines print, or a part of it, begins what all of them print
-  abbrev pub begins : (text : List ℕ) (at_end : Type 0) (lines others : List (List ℕ)) (written unwritten : List ℕ)
+  abbrev pub begins : (text : List ℕ) (reading : Reading) (lines others : List (List ℕ)) (written unwritten : List ℕ)
       → lines_taken text ≡ lines ++ others
       → written ++ unwritten ≡ printed behavior behavior.start lines
-      → (last_piece : IsLastPiece behavior text) (after_above : List ℕ)
+      → (last_piece : IsLastPiece behavior text reading) (after_above : List ℕ)
       → written ≡ printed behavior behavior.start (whole_lines last_piece.before) ++ after_above
-      → BeginsOutput behavior text written at_end
-  begins text at_end lines others written unwritten parts prints last_piece after_above above =
+      → BeginsOutput behavior text written reading
+  begins text reading lines others written unwritten parts prints last_piece after_above above =
       let whole = printed-begins behavior behavior.start lines others in
       record {
         unwritten = unwritten ++ whole.0;
@@ -35,13 +35,13 @@ module _ {S : Type 0} (behavior : Behavior S) where
       }
 
   -- at the end of the input what all lines print, or a part of it, begins the whole output
-  abbrev pub begins_at_end : (text : List ℕ) (at_end : Type 0) (written unwritten : List ℕ) → at_end
+  abbrev pub begins_at_end : (text : List ℕ) (reading : Reading) (written unwritten : List ℕ) → reading.at_end
       → length text ≤ most_bytes
       → written ++ unwritten ≡ printed behavior behavior.start (lines_of text)
-      → (last_piece : IsLastPiece behavior text) (after_above : List ℕ)
+      → (last_piece : IsLastPiece behavior text reading) (after_above : List ℕ)
       → written ≡ printed behavior behavior.start (whole_lines last_piece.before) ++ after_above
-      → BeginsOutput behavior text written at_end
-  begins_at_end text at_end written unwritten ended within prints last_piece after_above above =
+      → BeginsOutput behavior text written reading
+  begins_at_end text reading written unwritten ended within prints last_piece after_above above =
       let whole = output-begins behavior (lines_of text) [] in
       record {
         unwritten = unwritten ++ whole.0;
@@ -57,13 +57,14 @@ module _ {S : Type 0} (behavior : Behavior S) where
       }
 
   -- no piece is open
-  abbrev pub no_piece : (taken : List ℕ) → length taken ≤ most_bytes
+  abbrev pub no_piece : (taken : List ℕ) (reading : Reading) → reading.last_call taken [] → length taken ≤ most_bytes
       → halted behavior behavior.start (whole_lines taken) ≡ None
-      → IsLastPiece behavior taken
-  no_piece taken within none = record {
+      → IsLastPiece behavior taken reading
+  no_piece taken reading by_call within none = record {
     before = taken;
     piece = [];
     pieces = sym (append-nil taken);
+    by_call = by_call;
     one_piece = omega arith;
     within_before = within;
     none_before = none;
@@ -90,7 +91,8 @@ module _ {S : Type 0} (behavior : Behavior S) where
     module _ (read : Course) (left left' : Option (List ℕ))
         (gets : Gets course.input read.input left left' (read.taken - course.taken))
         (counted : course.taken ≤ read.taken) (ended : read.at_end ≡ true → read.taken ≡ course.taken)
-        (waits : read.waiting.items ≡ course.waiting.items) where
+        (waits : read.waiting.items ≡ course.waiting.items) (reading : Reading) (comes : IsAtEnd left' → reading.at_end)
+        (by_call : reading.last_call taken gets.taken) where
       abbrev more : List ℕ
       more = gets.taken
 
@@ -120,18 +122,19 @@ module _ {S : Type 0} (behavior : Behavior S) where
           ∙ lines_both taken more is.within read.at_end nothing_read
 
       -- the end of the input was come to
-      pub at_the_end : read.at_end ≡ true → IsAtEnd left' × (length text ≤ most_bytes)
+      pub at_the_end : read.at_end ≡ true → reading.at_end × (length text ≤ most_bytes)
       at_the_end end = (
-        gets.ends (omega (arith, ended end)),
+        comes (gets.ends (omega (arith, ended end))),
         omega (arith, length-append taken more, ap length (nothing_read end), is.within),
       )
 
       -- what was read is one piece
-      abbrev pub last_piece : IsLastPiece behavior text
+      abbrev pub last_piece : IsLastPiece behavior text reading
       last_piece = record {
         before = taken;
         piece = more;
         pieces = refl;
+        by_call = by_call;
         one_piece = subst (λ (held : List ℕ). length more ≤ max 65536 (length held)) (is.held isnt)
             (subst (λ (n : ℕ). n ≤ max 65536 (length course.input)) (sym gets.count) gets.bounded);
         within_before = is.within;
@@ -161,7 +164,7 @@ module _ {S : Type 0} (behavior : Behavior S) where
               (waits ∙ is.nothing_waits) (judges (state_after behavior behavior.start (whole_lines taken)) before.1))
 
           -- a line stops the command
-          abbrev pub halts : (h : Status) → halt ≡ Some h → Halts behavior h text (written ++ waiting) (IsAtEnd left')
+          abbrev pub halts : (h : Status) → halt ≡ Some h → Halts behavior h text (written ++ waiting) reading
           halts h stopped = record {
             lines = lines_counted read.at_end text;
             judged = counts read.at_end refl;
@@ -170,13 +173,13 @@ module _ {S : Type 0} (behavior : Behavior S) where
             last_piece = last_piece;
           }
             where
-              counts : (b : Bool) → read.at_end ≡ b → AreLinesTaken text (lines_counted b text) (IsAtEnd left')
+              counts : (b : Bool) → read.at_end ≡ b → AreLinesTaken text (lines_counted b text) reading.at_end
               counts true end = let there = at_the_end end in inr (there.0, there.1, refl)
               counts false before = inl refl
 
           -- there are too many bytes
           pub oversteps : (b : Bool) → read.at_end ≡ b → halt ≡ None → most_bytes < length text
-              → Oversteps behavior text (written ++ waiting)
+              → Oversteps behavior text (written ++ waiting) reading
           oversteps true end none beyond = absurd (omega (arith, beyond, (at_the_end end).1))
           oversteps false before none beyond =
               let same : lines_counted read.at_end text ≡ lines_taken text =

@@ -11,30 +11,30 @@ pub MayHalt-taken : {S : Type 0} (behavior : Behavior S) (stands : S → Type 0)
 MayHalt-taken behavior stands s lines halt out out' goes =
     subst MayHalt (sym goes.halt_of) (MayHalt-halted behavior s lines)
 
-module _ {R : Type 0} (bytes : R → Option (List ℕ)) (faults : R → ℕ) (n : ℕ) (before now : R)
+module _ {R : Type 0} (bytes : R → Option (List ℕ)) (faults calls : R → ℕ) (n : ℕ) (before now : R)
     (same : faults now ≡ faults before) where
   pub CountsReads-stopped : (halt : Option Status) (result : Result (Unit {0}) Status) → MayHalt halt
-      → StopsAt halt n result → CountsReads bytes faults result before now
+      → StopsAt halt n result → CountsReads bytes faults calls result before now
   CountsReads-stopped None (Ok done) may within = same
   CountsReads-stopped None (Err status) may beyond =
-      subst (λ (s : Status). FaultsOfSource bytes faults s before now) (sym beyond.0) same
+      subst (λ (s : Status). FaultsOfSource bytes faults calls s before now) (sym beyond.0) same
   CountsReads-stopped (Some Header) result may stopped =
-      subst (λ (r : Result (Unit {0}) Status). CountsReads bytes faults r before now) (sym stopped) same
+      subst (λ (r : Result (Unit {0}) Status). CountsReads bytes faults calls r before now) (sym stopped) same
   CountsReads-stopped (Some TooLong) result may stopped =
-      subst (λ (r : Result (Unit {0}) Status). CountsReads bytes faults r before now) (sym stopped) same
+      subst (λ (r : Result (Unit {0}) Status). CountsReads bytes faults calls r before now) (sym stopped) same
   CountsReads-stopped (Some NotCertified) result may stopped =
-      subst (λ (r : Result (Unit {0}) Status). CountsReads bytes faults r before now) (sym stopped) same
+      subst (λ (r : Result (Unit {0}) Status). CountsReads bytes faults calls r before now) (sym stopped) same
   CountsReads-stopped (Some _) result may stopped = absurd may
 
   pub CountsWrites-stopped : (halt : Option Status) (result : Result (Unit {0}) Status) → MayHalt halt
-      → StopsAt halt n result → CountsWrites bytes faults result before now
+      → StopsAt halt n result → CountsWrites bytes faults calls result before now
   CountsWrites-stopped None (Ok done) may within = same
   CountsWrites-stopped None (Err status) may beyond =
-      subst (λ (s : Status). FaultsOfSink bytes faults s before now) (sym beyond.0) same
+      subst (λ (s : Status). FaultsOfSink bytes faults calls s before now) (sym beyond.0) same
   CountsWrites-stopped (Some Header) result may stopped =
-      subst (λ (r : Result (Unit {0}) Status). CountsWrites bytes faults r before now) (sym stopped) same
+      subst (λ (r : Result (Unit {0}) Status). CountsWrites bytes faults calls r before now) (sym stopped) same
   CountsWrites-stopped (Some TooLong) result may stopped =
-      subst (λ (r : Result (Unit {0}) Status). CountsWrites bytes faults r before now) (sym stopped) same
+      subst (λ (r : Result (Unit {0}) Status). CountsWrites bytes faults calls r before now) (sym stopped) same
   CountsWrites-stopped (Some NotCertified) result may stopped =
-      subst (λ (r : Result (Unit {0}) Status). CountsWrites bytes faults r before now) (sym stopped) same
+      subst (λ (r : Result (Unit {0}) Status). CountsWrites bytes faults calls r before now) (sym stopped) same
   CountsWrites-stopped (Some _) result may stopped = absurd may

@@ -4,11 +4,12 @@ use Rattle.std.proofs.Common.{ap, ◌∙◌, append_assoc, append-nil, flat_map}
 use Rattle.vms_stream.specs.declared.statuses.Status.{Status}
 use Rattle.vms_stream.specs.declared.statuses.Status.TheVariants.{Done, Words, Header, Refused, ReadFault, WriteFault}
 use Rattle.vms_stream.specs.declared.statuses.Status.TheVariants.{Memory, NotCertified, TooLong}
-use Rattle.vms_stream.specs.Common.{BeginsOutput, Says, lines_taken, output, printed, printed_from, PhasedBehavior, Way}
-use Rattle.vms_stream.specs.Common.{last_of_way, supply, with_outcomes, Gives, Lacks, On, Short, LineTexts, Text}
-use Rattle.vms_stream.specs.Common.{Waiting, ends_at, printed_now, spelled, unless_stopped, waiting, waits_after}
-use Rattle.vms_stream.specs.Common.{waits_with, Plain, Asks, input_in_order, last_in_order, lines_in_order, text_then}
-use Rattle.vms_stream.specs.Common.{texts_in_order, SaysPhased, AreMade, shown_on, BeginsInOrder, WritesTextsOf, IsDue}
+use Rattle.vms_stream.specs.Common.{BeginsOutput, Reading, Says, lines_taken, output, printed, printed_from}
+use Rattle.vms_stream.specs.Common.{PhasedBehavior, Way, last_of_way, supply, with_outcomes, Gives, Lacks, On, Short}
+use Rattle.vms_stream.specs.Common.{LineTexts, Text, Waiting, ends_at, printed_now, spelled, unless_stopped, waiting}
+use Rattle.vms_stream.specs.Common.{waits_after, waits_with, Plain, Asks, input_in_order, last_in_order, lines_in_order}
+use Rattle.vms_stream.specs.Common.{text_then, texts_in_order, SaysPhased, AreMade, shown_on, BeginsInOrder}
+use Rattle.vms_stream.specs.Common.{WritesTextsOf, IsDue}
 use Rattle.vms_stream.proofs.MoreOutcomes.{printed_to, printed_to-printed, printed_to-short, printed_to-words}
 use Rattle.vms_stream.proofs.PieceLines.{lines_taken-within}
 use Rattle.vms_stream.proofs.TextOrder.{after_waits, after_waits-some, by_supply, inside-in_order, last_of, last_with}
@@ -153,7 +154,7 @@ module _ {S O : Type 0} (texts : LineTexts S O) where
       )
 
   module _ (shows : Waiting S O → Option O → Type 0) (outcomes : List O) (taken written : List ℕ)
-      (at_end : Type 0) where
+      (reading : Reading) where
     -- more comes after what is to be written
     further : (unwritten text all : List ℕ) → written ++ unwritten ≡ text → Begins text all
         → (rest : List ℕ) × (written ++ rest ≡ all)
@@ -162,12 +163,12 @@ module _ {S O : Type 0} (texts : LineTexts S O) where
       sym (append_assoc written unwritten rest) ∙ ap (λ (bytes : List ℕ). bytes ++ rest) is ∙ sym more,
     )
 
-    begins-in_order : BeginsOutput (with_outcomes phased outcomes) taken written at_end
-        → BeginsInOrder texts outcomes taken written at_end
+    begins-in_order : BeginsOutput (with_outcomes phased outcomes) taken written reading
+        → BeginsInOrder texts outcomes taken written reading.at_end
     begins-in_order begins = by begins.due
       where
-        by : IsDue (with_outcomes phased outcomes) taken (written ++ begins.unwritten) at_end
-            → BeginsInOrder texts outcomes taken written at_end
+        by : IsDue (with_outcomes phased outcomes) taken (written ++ begins.unwritten) reading.at_end
+            → BeginsInOrder texts outcomes taken written reading.at_end
         by (inl due) =
             let lines = lines_taken taken in
             let found = further begins.unwritten (printed (with_outcomes phased outcomes) (On phased.start outcomes)
@@ -180,9 +181,9 @@ module _ {S O : Type 0} (texts : LineTexts S O) where
             record { unwritten = found.0; due = inr (ended, within, found.1) }
 
     by_status : (status : Status)
-        → (says : Says (with_outcomes phased outcomes) (shown_on phased shows) status taken written at_end)
-        → AreMade phased shows outcomes taken written at_end status says
-        → WritesTextsOf texts outcomes status taken written at_end
+        → (says : Says (with_outcomes phased outcomes) (shown_on phased shows) status taken written reading)
+        → AreMade phased shows outcomes taken written reading status says
+        → WritesTextsOf texts outcomes status taken written reading.at_end
     by_status Done ends made = ends.whole_output ∙ output-in_order texts outcomes (lines_of taken) made
     by_status Refused ends made = ends.whole_output ∙ output-in_order texts outcomes (lines_of taken) made
     by_status Header (inl halts) made = inl (record {
@@ -218,6 +219,6 @@ module _ {S O : Type 0} (texts : LineTexts S O) where
     by_status Words says made = absurd says
 
     -- what a command that holds back texts writes is the texts of the lines in their order
-    pub SaysPhased-in_order : (status : Status) → SaysPhased phased shows outcomes status taken written at_end
-        → WritesTextsOf texts outcomes status taken written at_end
+    pub SaysPhased-in_order : (status : Status) → SaysPhased phased shows outcomes status taken written reading
+        → WritesTextsOf texts outcomes status taken written reading.at_end
     SaysPhased-in_order status said = by_status status said.says said.made

@@ -2,6 +2,7 @@
 pub use Rattle.vms_stream.specs.Pieces.{front_of, last_of, newline_parts, partial_line, whole_lines}
 pub use Rattle.vms_stream.specs.Behaviors.{Behavior, MayEnd, MayHalt, first_halt, halted, last_words, output, printed}
 pub use Rattle.vms_stream.specs.Behaviors.{printed_from, state_after}
+pub use Rattle.vms_stream.specs.Readings.{LastCall, Reading, reading_of}
 pub use Rattle.vms_stream.specs.Answers.{AreLinesTaken, BeginsOutput, Ends, FaultsOfSink, FaultsOfSource, GoesOn, Halts}
 pub use Rattle.vms_stream.specs.Answers.{IsDue, IsLastPiece, Oversteps, Says, TakesAndWrites, lines_taken, most_bytes}
 pub use Rattle.vms_stream.specs.PhasedBehaviors.{OutcomeSupply, PhasedBehavior, Way, ending_at, halt_at, last_of_way}

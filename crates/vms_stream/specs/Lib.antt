@@ -1,5 +1,6 @@
 pub mod Pieces
 pub mod Behaviors
+pub mod Readings
 pub mod Answers
 pub mod PhasedBehaviors
 pub mod Ways

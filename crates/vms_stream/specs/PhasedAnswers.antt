@@ -9,6 +9,7 @@ use Rattle.vms_text.specs.Common.{lines_of}
 use Rattle.vms_stream.specs.PhasedBehaviors.{PhasedBehavior, with_outcomes}
 use Rattle.vms_stream.specs.PhasedBehaviors.Way.{On}
 use Rattle.vms_stream.specs.Pieces.{whole_lines}
+use Rattle.vms_stream.specs.Readings.{Reading}
 use Rattle.vms_stream.specs.Ways.{HasAllOutcomes}
 use Rattle.vms_stream.specs.Leading.{OutcomesLead, OutcomesLeadToEnd}
 use Rattle.vms_stream.specs.Jobs.{Grows, shown_on}
@@ -29,49 +30,50 @@ OutcomesLeadTaken phased outcomes taken at_end =
 -- where a write failed, or memory ran out: the outcomes lead through the lines that were taken, and each phase that
 -- ended above the last piece has its own
 pub record LeadAbove {S O : Type 0} (phased : PhasedBehavior S O) (outcomes : List O) (taken written : List ℕ)
-    (at_end : Type 0) (begins : BeginsOutput (with_outcomes phased outcomes) taken written at_end) : Type 0 where
-  pub leads : OutcomesLeadTaken phased outcomes taken at_end
+    (reading : Reading) (begins : BeginsOutput (with_outcomes phased outcomes) taken written reading) : Type 0 where
+  pub leads : OutcomesLeadTaken phased outcomes taken reading.at_end
   pub above : HasAllOutcomes phased (On phased.start outcomes) (whole_lines begins.last_piece.before)
 
 -- which phases were made, by what a status says. A phase ended at the end of the input only where the command came to
 -- it, and not after a failed read, nor where a line stopped the command or the input has too many bytes
 abbrev pub AreMade : {S O : Type 0} (phased : PhasedBehavior S O) (shows : S → Option O → Type 0) (outcomes : List O)
-    (taken written : List ℕ) (at_end : Type 0) (status : Status)
-    → Says (with_outcomes phased outcomes) (shown_on phased shows) status taken written at_end → Type 0
-AreMade phased shows outcomes taken written at_end Done ends =
+    (taken written : List ℕ) (reading : Reading) (status : Status)
+    → Says (with_outcomes phased outcomes) (shown_on phased shows) status taken written reading → Type 0
+AreMade phased shows outcomes taken written reading Done ends =
     OutcomesLeadToEnd phased phased.start outcomes (lines_of taken)
-AreMade phased shows outcomes taken written at_end Words says = ⊥
-AreMade phased shows outcomes taken written at_end Header (inl halts) = AreOutcomesOf phased outcomes halts.lines
-AreMade phased shows outcomes taken written at_end Header (inr ends) =
+AreMade phased shows outcomes taken written reading Words says = ⊥
+AreMade phased shows outcomes taken written reading Header (inl halts) = AreOutcomesOf phased outcomes halts.lines
+AreMade phased shows outcomes taken written reading Header (inr ends) =
     OutcomesLeadToEnd phased phased.start outcomes (lines_of taken)
-AreMade phased shows outcomes taken written at_end Refused ends =
+AreMade phased shows outcomes taken written reading Refused ends =
     OutcomesLeadToEnd phased phased.start outcomes (lines_of taken)
-AreMade phased shows outcomes taken written at_end ReadFault goes =
+AreMade phased shows outcomes taken written reading ReadFault goes =
     AreOutcomesOf phased outcomes (lines_taken taken)
-AreMade phased shows outcomes taken written at_end WriteFault begins =
-    LeadAbove phased outcomes taken written at_end begins
-AreMade phased shows outcomes taken written at_end Memory begins =
-    LeadAbove phased outcomes taken written at_end begins
-AreMade phased shows outcomes taken written at_end TooLong (inl halts) = AreOutcomesOf phased outcomes halts.lines
-AreMade phased shows outcomes taken written at_end TooLong (inr oversteps) =
+AreMade phased shows outcomes taken written reading WriteFault begins =
+    LeadAbove phased outcomes taken written reading begins
+AreMade phased shows outcomes taken written reading Memory begins =
+    LeadAbove phased outcomes taken written reading begins
+AreMade phased shows outcomes taken written reading TooLong (inl halts) = AreOutcomesOf phased outcomes halts.lines
+AreMade phased shows outcomes taken written reading TooLong (inr oversteps) =
     AreOutcomesOf phased outcomes (lines_taken taken)
-AreMade phased shows outcomes taken written at_end NotCertified (inl halts) =
+AreMade phased shows outcomes taken written reading NotCertified (inl halts) =
     AreOutcomesOf phased outcomes halts.lines
-AreMade phased shows outcomes taken written at_end NotCertified (inr ends) =
+AreMade phased shows outcomes taken written reading NotCertified (inr ends) =
     OutcomesLeadToEnd phased phased.start outcomes (lines_of taken)
 
 -- what each status says, by the outcomes of the phases that were made. `shows` is what the job shows at the end of the
 -- input, where each phase that ended has its outcome
 pub record SaysPhased {S O : Type 0} (phased : PhasedBehavior S O) (shows : S → Option O → Type 0) (outcomes : List O)
-    (status : Status) (taken written : List ℕ) (at_end : Type 0) : Type 0 where
-  pub says : Says (with_outcomes phased outcomes) (shown_on phased shows) status taken written at_end
-  pub made : AreMade phased shows outcomes taken written at_end status says
+    (status : Status) (taken written : List ℕ) (reading : Reading) : Type 0 where
+  pub says : Says (with_outcomes phased outcomes) (shown_on phased shows) status taken written reading
+  pub made : AreMade phased shows outcomes taken written reading status says
 
 -- a command took bytes from its source, wrote bytes to its sink, and made phases with these outcomes
 pub record AnswersPhased {S O R K : Type 0} (phased : PhasedBehavior S O) (shows : S → Option O → Type 0)
-    (made made' : Option (List O)) (left : R → Option (List ℕ)) (read_faults : R → ℕ) (held : K → Option (List ℕ))
-    (write_faults : K → ℕ) (src src' : R) (out out' : K) (status : Status) : Type 0 where
+    (made made' : Option (List O)) (left : R → Option (List ℕ)) (read_faults read_calls : R → ℕ)
+    (held : K → Option (List ℕ)) (write_faults write_calls : K → ℕ) (src src' : R) (out out' : K) (status : Status)
+    : Type 0 where
   pub outcomes : List O
   pub grows : Grows made made' outcomes
-  pub answers : TakesAndWrites left read_faults held write_faults src src' out out' status
+  pub answers : TakesAndWrites left read_faults read_calls held write_faults write_calls src src' out out' status
       (SaysPhased phased shows outcomes)

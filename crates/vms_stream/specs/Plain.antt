@@ -1,11 +1,11 @@
 -- Commands that make no phase.
 use Rattle.std.specs.Prelude.{◌≡◌, ℕ, false, List, [], Option, None}
-use Rattle.std.specs.Io.KnownBytes.{IsAtEnd}
 use Rattle.vms_stream.specs.Answers.{Says}
 use Rattle.vms_stream.specs.Behaviors.{Behavior}
 use Rattle.vms_stream.specs.declared.statuses.Status.{Status}
 use Rattle.vms_stream.specs.PhasedBehaviors.{PhasedBehavior}
 use Rattle.vms_stream.specs.PhasedAnswers.{SaysPhased}
+use Rattle.vms_stream.specs.Readings.{reading_of}
 use Rattle.vms_stream.specs.Waiting.{IsAsking, LineTexts, Text}
 use Rattle.vms_stream.specs.Waiting.Text.{Plain, Asks}
 
@@ -28,11 +28,12 @@ plain phased = record {
 }
 
 -- a command that makes no phase says what its plain behavior says
-abbrev pub SaysPlainly : {S O : Type 0} → PhasedBehavior S O → (S → Option O → Type 0) → Type 0
-SaysPlainly {S} {O} phased shows = MakesNoPhase phased →
-    (outcomes : List O) (status : Status) (taken written : List ℕ) (left : Option (List ℕ)) →
-    SaysPhased phased shows outcomes status taken written (IsAtEnd left) →
-    Says (plain phased) (λ s. shows s None) status taken written (IsAtEnd left)
+abbrev pub SaysPlainly : {S O R : Type 0} → PhasedBehavior S O → (S → Option O → Type 0) → (R → Option (List ℕ))
+    → (R → ℕ) → Type 0
+SaysPlainly {S} {O} {R} phased shows left calls = MakesNoPhase phased →
+    (outcomes : List O) (status : Status) (taken written : List ℕ) (src src' : R) →
+    SaysPhased phased shows outcomes status taken written (reading_of left calls src src') →
+    Says (plain phased) (λ s. shows s None) status taken written (reading_of left calls src src')
 
 -- lines that have plain texts alone, and no phase ends
 pub record AskNothing {S O : Type 0} (texts : LineTexts S O) : Type 0 where

@@ -22,12 +22,13 @@ pub(crate) struct Course {
 impl Course {
     ghost use Rattle.std.specs.Prelude.{◌≡◌, ℕ, ◌+◌, ◌-◌, ◌<◌, ◌≤◌, ◌⊎◌, true, false, List, [], length, take, drop};
     ghost use Rattle.std.specs.Prelude.{◌≢◌, IfErr, IfOk, OnErr, OnOk};
-    ghost use Rattle.std.specs.Io.KnownBytes.{Appends, Keeps};
+    ghost use Rattle.std.specs.Io.KnownBytes.{Appends, Consumes, IsAtEnd, Keeps};
     ghost use Rattle.vms_io.specs.Common.{Gets};
     ghost use Rattle.vms_stream.specs.Answers.{FaultsOfSink, most_bytes};
     ghost use Rattle.vms_stream.specs.Courses.{CountsReads, CountsWrites, FinishesPhased, IsPhasedCourse, StepsPhased};
     ghost use Rattle.vms_stream.specs.Courses.{lines_held, status_in};
     ghost use Rattle.vms_stream.specs.Pieces.{partial_line};
+    ghost use Rattle.vms_stream.specs.Readings.{reading_of};
     ghost use Rattle.vms_stream.specs.Taking.{TakesText};
     ghost use Rattle.vms_text.specs.Common.{lines_of};
 
@@ -56,7 +57,8 @@ impl Course {
         ensures waits { OnOk result (self.new.waiting ≡ self.old.waiting) }
         ensures unread { OnErr result (Keeps (S.remaining src.old) (S.remaining src.new)) }
         ensures cause { IfErr result (λ status. (status ≡ Status.ReadFault) ⊎ (status ≡ Status.Memory)) }
-        ensures counts { CountsReads S.remaining S.faults result src.old src.new }
+        ensures counts { CountsReads S.remaining S.faults S.calls result src.old src.new }
+        ensures once { S.calls src.new ≤ S.calls src.old + 1 }
     {
         let count = read(&mut self.input, src)?;
         self.taken += count;
@@ -101,7 +103,7 @@ impl Course {
         ensures same_count { self.new.taken ≡ self.old.taken }
         ensures same_end { self.new.at_end ≡ self.old.at_end }
         ensures cause { IfErr result (λ status. (status ≡ Status.Memory) ⊎ (status ≡ Status.WriteFault)) }
-        ensures counts { CountsWrites K.written K.faults result out.old out.new }
+        ensures counts { CountsWrites K.written K.faults K.calls result out.old out.new }
     {
         let ready = self.ready();
         let halt = take_lines(
@@ -125,7 +127,7 @@ impl Course {
         ensures same_input { self.new.input ≡ self.old.input }
         ensures same_count { self.new.taken ≡ self.old.taken }
         ensures same_end { self.new.at_end ≡ self.old.at_end }
-        ensures counts { CountsWrites K.written K.faults result out.old out.new }
+        ensures counts { CountsWrites K.written K.faults K.calls result out.old out.new }
     {
         write_all(out, self.waiting.as_slice())?;
         self.waiting.clear();
@@ -143,13 +145,14 @@ impl Course {
         requires course { (outcomes : List J.Outcome) × (taken : List ℕ) × (written : List ℕ)
             × IsPhasedCourse J.behavior (J.Stands job.old) outcomes taken written self.old }
         requires before_end { self.old.at_end ≡ false }
-        ensures steps { (outcomes : List J.Outcome) (taken : List ℕ) (written : List ℕ) →
+        ensures steps { (first : S) (outcomes : List J.Outcome) (taken : List ℕ) (written : List ℕ) →
+            Consumes (S.remaining first) (S.remaining src.old) taken →
             IsPhasedCourse J.behavior (J.Stands job.old) outcomes taken written self.old →
             StepsPhased J.behavior (J.Stands job.new) J.Shows outcomes taken written self.new
             (J.made engine.old) (J.made engine.new) (S.remaining src.old) (S.remaining src.new)
-            (K.written out.old) (K.written out.new) result }
-        ensures reads { CountsReads S.remaining S.faults result src.old src.new }
-        ensures writes { CountsWrites K.written K.faults result out.old out.new }
+            (K.written out.old) (K.written out.new) (reading_of S.remaining S.calls first src.new) result }
+        ensures reads { CountsReads S.remaining S.faults S.calls result src.old src.new }
+        ensures writes { CountsWrites K.written K.faults K.calls result out.old out.new }
         ensures nearer { OnOk result (self.new.at_end ≡ false → self.old.taken < self.new.taken) }
     {
         self.read(src)?;
@@ -158,8 +161,8 @@ impl Course {
         stop_at(halt, self.taken)
     }
 
-    /// Ends the job and writes what is left to write.
-    pub(crate) fn finish<J: Job, K: Sink>(
+    /// Ends the job and writes what is left to write, without a call of the source.
+    pub(crate) fn finish<J: Job, S: Source, K: Sink>(
         &mut self,
         job: &mut J,
         engine: &mut J::Engine,
@@ -168,12 +171,13 @@ impl Course {
         requires course { (outcomes : List J.Outcome) × (taken : List ℕ) × (written : List ℕ)
             × IsPhasedCourse J.behavior (J.Stands job.old) outcomes taken written self.old }
         requires at_end { self.old.at_end ≡ true }
-        ensures finishes { (outcomes : List J.Outcome) (taken : List ℕ) (written : List ℕ) →
+        ensures finishes { (first last : S) (outcomes : List J.Outcome) (taken : List ℕ) (written : List ℕ) →
+            Consumes (S.remaining first) (S.remaining last) taken → IsAtEnd (S.remaining last) →
             IsPhasedCourse J.behavior (J.Stands job.old) outcomes taken written self.old →
             FinishesPhased J.behavior J.Shows outcomes taken written (J.made engine.old) (J.made engine.new)
-            (K.written out.old) (K.written out.new) result }
+            (K.written out.old) (K.written out.new) (reading_of S.remaining S.calls first last) result }
         ensures reads { status_in result ≢ Status.ReadFault }
-        ensures writes { FaultsOfSink K.written K.faults (status_in result) out.old out.new }
+        ensures writes { FaultsOfSink K.written K.faults K.calls (status_in result) out.old out.new }
     {
         let ending = job.end(engine, &mut self.waiting)?;
         self.flush(out)?;
@@ -181,7 +185,7 @@ impl Course {
     }
 }
 
-ghost use Rattle.std.specs.Prelude.{◌≡◌, ◌⊎◌, IfErr, IfOk, OnErr};
+ghost use Rattle.std.specs.Prelude.{◌≡◌, ◌+◌, ◌≤◌, ◌⊎◌, IfErr, IfOk, OnErr};
 ghost use Rattle.std.specs.Io.KnownBytes.{Keeps};
 ghost use Rattle.vms_io.specs.Common.{Gets};
 ghost use Rattle.vms_stream.specs.Courses.{CountsReads, StopsAt};
@@ -191,7 +195,8 @@ fn read<S: Source>(input: &mut ReadBuffer, src: &mut S) -> Result<usize, Status>
     ensures ok { IfOk result (Gets input.old input.new (S.remaining src.old) (S.remaining src.new)) }
     ensures unread { OnErr result (Keeps (S.remaining src.old) (S.remaining src.new)) }
     ensures cause { IfErr result (λ status. (status ≡ Status.ReadFault) ⊎ (status ≡ Status.Memory)) }
-    ensures counts { CountsReads S.remaining S.faults result src.old src.new }
+    ensures counts { CountsReads S.remaining S.faults S.calls result src.old src.new }
+    ensures once { S.calls src.new ≤ S.calls src.old + 1 }
 {
     let count = input.read_more(src)?;
     Ok(count)

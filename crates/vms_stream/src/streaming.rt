@@ -17,8 +17,8 @@ pub fn stream<J: Job, S: Source, K: Sink>(
     out: &mut K,
 ) -> (Status, J::Engine)
     requires { J.Stands job.old J.behavior.start }
-    ensures { AnswersPhased J.behavior J.Shows (J.made engine) (J.made result.1) S.remaining S.faults K.written K.faults
-        src.old src.new out.old out.new result.0 }
+    ensures { AnswersPhased J.behavior J.Shows (J.made engine) (J.made result.1) S.remaining S.faults S.calls
+        K.written K.faults K.calls src.old src.new out.old out.new result.0 }
 {
     let mut engine = engine;
     let ended = run(alloc, job, &mut engine, src, out);
@@ -43,12 +43,12 @@ fn run<J: Job, S: Source, K: Sink>(
     out: &mut K,
 ) -> Result<Status, Status>
     requires { J.Stands job.old J.behavior.start }
-    ensures { AnswersPhased J.behavior J.Shows (J.made engine.old) (J.made engine.new) S.remaining S.faults K.written
-        K.faults src.old src.new out.old out.new (status_in result) }
+    ensures { AnswersPhased J.behavior J.Shows (J.made engine.old) (J.made engine.new) S.remaining S.faults S.calls
+        K.written K.faults K.calls src.old src.new out.old out.new (status_in result) }
 {
     let mut course = Course::begin(alloc)?;
     'pieces: while !course.at_end {
         course.step(job, engine, src, out)?;
     }
-    course.finish(job, engine, out)
+    course.finish::<J, S, K>(job, engine, out)
 }

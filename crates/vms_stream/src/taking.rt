@@ -23,7 +23,7 @@ pub(crate) fn take_lines<J: Job, K: Sink>(
     ensures takes { TakesText J.behavior (J.Stands job.old) (J.Stands job.new) (J.made engine.old) (J.made engine.new)
         (lines_of text.now) result waiting.old.items waiting.new.items (K.written out.old) (K.written out.new) }
     ensures cause { IfErr result (λ status. (status ≡ Status.Memory) ⊎ (status ≡ Status.WriteFault)) }
-    ensures counts { CountsWrites K.written K.faults result out.old out.new }
+    ensures counts { CountsWrites K.written K.faults K.calls result out.old out.new }
 {
     let mut rest = text;
     'lines: while !rest.is_empty() {
@@ -42,7 +42,7 @@ fn write_above<K: Sink>(waiting: &mut Vec<u8>, out: &mut K) -> Result<(), Status
     ensures writes { WritesFront waiting.old.items (K.written out.old) (K.written out.new)
         (λ rest. OnOk result (waiting.new.items ≡ rest)) }
     ensures cause { IfErr result (λ status. status ≡ Status.WriteFault) }
-    ensures counts { CountsWrites K.written K.faults result out.old out.new }
+    ensures counts { CountsWrites K.written K.faults K.calls result out.old out.new }
 {
     if waiting.len() > MOST_WAITING {
         write_all(out, waiting.as_slice())?;

@@ -9,13 +9,16 @@ use Rattle.vms_trace_parts.specs.Common.{BeginAfter, CopiesTexts, SaysCopied, Tr
 use Rattle.vms_trace_parts.specs.Common.{header_at, shown_by_copy}
 
 -- what `copy_trace` answers, by the text
-pub TakesAndWrites-copied : {R K : Type 0} → CopiesTexts → (parts : List TracePart) (left : R → Option (List ℕ))
-    (read_faults : R → ℕ) (held : K → Option (List ℕ)) (write_faults : K → ℕ) (src src' : R) (out out' : K)
-    (status : Status)
+pub TakesAndWrites-copied : {R K : Type 0} (parts : List TracePart) (left : R → Option (List ℕ))
+    (read_faults read_calls : R → ℕ) → CopiesTexts left read_calls → (held : K → Option (List ℕ))
+    (write_faults write_calls : K → ℕ) (src src' : R) (out out' : K) (status : Status)
     → AnswersPhased (waiting (following copying)) (shown_given shown_by_copy) (Some []) (Some parts) left read_faults
-    held write_faults src src' out out' status
-    → TakesAndWrites left read_faults held write_faults src src' out out' status (SaysCopied parts)
-TakesAndWrites-copied copies parts left read_faults held write_faults src src' out out' status phased =
+    read_calls
+    held write_faults write_calls src src' out out' status
+    → TakesAndWrites left read_faults read_calls held write_faults write_calls src src' out out' status
+    (λ said taken written reading. SaysCopied parts said taken written reading.at_end)
+TakesAndWrites-copied parts left read_faults read_calls copies held write_faults write_calls src src' out out' status
+    phased =
     let answers = phased.answers in
     let grows : Some parts ≡ Some phased.outcomes = phased.grows in
     let same : parts ≡ phased.outcomes = cc in
@@ -26,7 +29,7 @@ TakesAndWrites-copied copies parts left read_faults held write_faults src src' o
       appends = answers.appends;
       answer = subst (λ (kept : List TracePart).
           SaysCopied kept status answers.taken answers.written (IsAtEnd (left src'))) (sym same)
-          (copies phased.outcomes status answers.taken answers.written (left src') answers.answer);
+          (copies phased.outcomes status answers.taken answers.written src src' answers.answer);
       reads = answers.reads;
       writes = answers.writes;
     }

@@ -10,7 +10,7 @@ use Rattle.vms_script.specs.Common.{BoundariesCut, LinesMakeOnePhase, judged as 
 use Rattle.vms_stream.specs.declared.statuses.Status.{Status}
 use Rattle.vms_stream.specs.declared.statuses.Status.TheVariants.{Done, Words, ReadFault, WriteFault, Memory, TooLong}
 use Rattle.vms_stream.specs.declared.statuses.Status.TheVariants as statuses
-use Rattle.vms_stream.specs.Common.{BeginsOutput, IsDue, MayHalt, output, AreLinesTaken, halted, last_words}
+use Rattle.vms_stream.specs.Common.{BeginsOutput, IsDue, MayHalt, output, AreLinesTaken, Reading, halted, last_words}
 use Rattle.vms_stream.specs.Common.{lines_taken, most_bytes, printed, state_after}
 use Rattle.vms_command.specs.Common.{Body, Heading, exceeds, exceeds_limit, header_line, most_lines, printed_head}
 use Rattle.vms_command.specs.Common.{refuses}
@@ -167,9 +167,9 @@ module _ (cuts : BoundariesCut) (one : LinesMakeOnePhase) where
             ++ last_words h (plain.last (state_after plain first (lines_of taken)))) stops
             ∙ append-nil (printed plain first (lines_of taken)))
 
-  module _ (parts : List TracePart) (taken written : List ℕ) (at_end : Type 0) where
+  module _ (parts : List TracePart) (taken written : List ℕ) (reading : Reading) where
     -- what was written begins what is due
-    pub begins-copy : BeginsOutput (behavior parts) taken written at_end → BeginsCopy taken written at_end
+    pub begins-copy : BeginsOutput (behavior parts) taken written reading → BeginsCopy taken written reading.at_end
     begins-copy begins = by begins.due
       where
         more : (whole_text text rest : List ℕ) → written ++ begins.unwritten ≡ text → whole_text ≡ text ++ rest
@@ -177,12 +177,13 @@ module _ (cuts : BoundariesCut) (one : LinesMakeOnePhase) where
         more whole_text text rest is whole =
             sym (append_assoc written begins.unwritten rest) ∙ ap (λ (bytes : List ℕ). bytes ++ rest) is ∙ sym whole
 
-        by : IsDue (behavior parts) taken (written ++ begins.unwritten) at_end → BeginsCopy taken written at_end
+        by : IsDue (behavior parts) taken (written ++ begins.unwritten) reading.at_end → BeginsCopy taken written
+            reading.at_end
         by (inl is) =
             let rest = printed-begins parts (lines_taken taken) first parts in
             record {
               unwritten = begins.unwritten ++ rest.0;
-              due = due-printed taken (written ++ (begins.unwritten ++ rest.0)) at_end (lines_taken taken)
+              due = due-printed taken (written ++ (begins.unwritten ++ rest.0)) reading.at_end (lines_taken taken)
                   (inl refl) (more (printed plain first (lines_taken taken))
                   (printed (behavior parts) (behavior parts).start (lines_taken taken)) rest.0 is rest.1);
             }
@@ -190,6 +191,6 @@ module _ (cuts : BoundariesCut) (one : LinesMakeOnePhase) where
             let rest = output-begins parts (lines_of taken) first parts in
             record {
               unwritten = begins.unwritten ++ rest.0;
-              due = due-output taken (written ++ (begins.unwritten ++ rest.0)) at_end ended within
+              due = due-output taken (written ++ (begins.unwritten ++ rest.0)) reading.at_end ended within
                   (more (output plain (lines_of taken)) (output (behavior parts) (lines_of taken)) rest.0 is rest.1);
             }

@@ -3,7 +3,6 @@ use Rattle.std.proofs.Common.{◌≡◌, ◌⊎◌, ℕ, suc, ◌≤◌, nat_lt,
 use Rattle.std.proofs.Common.{refl, sym, ap, ap₂, subst, ◌∙◌, arith, append-nil, length, take, drop}
 use Rattle.std.specs.Prelude.{if◌then◌else◌}
 use mathlib.Core.Logic.{inl, inr}
-use Rattle.std.specs.Io.KnownBytes.{IsAtEnd}
 use Rattle.std.proofs.lemmas.Bool.Decides.{nat_tests}
 use Rattle.std.proofs.lemmas.List.{take_all}
 use Rattle.vms_base.specs.Common.{IsHeader}
@@ -18,8 +17,9 @@ use Rattle.vms_stream.specs.declared.statuses.Status.{Status}
 use Rattle.vms_stream.specs.declared.statuses.Status.TheVariants.{Done, Words, ReadFault, WriteFault, Memory, TooLong}
 use Rattle.vms_stream.specs.declared.statuses.Status.TheVariants as statuses
 use Rattle.vms_stream.specs.Common.{AreMade, Ends, HasAllOutcomes, Halts, IsOn, On, OutcomesLeadToEnd, Oversteps}
-use Rattle.vms_stream.specs.Common.{SaysPhased, Short, UsedAtEnd, Waiting, Way, halted, last_of_way, last_words}
-use Rattle.vms_stream.specs.Common.{lines_taken, most_bytes, printed, shown_on, state_after, way_ends, whole_lines}
+use Rattle.vms_stream.specs.Common.{Reading, reading_of, SaysPhased, Short, UsedAtEnd, Waiting, Way, halted}
+use Rattle.vms_stream.specs.Common.{last_of_way, last_words, lines_taken, most_bytes, printed, shown_on, state_after}
+use Rattle.vms_stream.specs.Common.{way_ends, whole_lines}
 use Rattle.vms_command.specs.Common.{Body, Heading, LinesAbove, header_line, shown_given, status_at_end}
 use Rattle.vms_trace_parts.specs.Common.{ArePartsOf, CopiesAboveLimit, CopiesAll, CopiesMost, CopiesTexts}
 use Rattle.vms_trace_parts.specs.Common.{RefusesHeader, SaysCopied, TracePart, segments_of_begin, copied_text}
@@ -33,9 +33,9 @@ use Rattle.vms_trace_parts.proofs.CopiedLines.{copied, first, stood-after, stood
 use Rattle.vms_trace_parts.proofs.StoppedCopies.{begins-copy, limited-cut, never, refused-cut}
 
 module _ (cuts : BoundariesCut) (one : LinesMakeOnePhase) (may : SegmentsMayStand) where
-  module _ (parts : List TracePart) (taken written : List ℕ) (at_end : Type 0) where
+  module _ (parts : List TracePart) (taken written : List ℕ) (reading : Reading) where
     -- the copy came to the end of its input
-    module _ (ended : at_end) (within : length taken ≤ most_bytes) where
+    module _ (ended : reading.at_end) (within : length taken ≤ most_bytes) where
       abbrev all : List (List ℕ)
       all = lines_of taken
 
@@ -66,7 +66,7 @@ module _ (cuts : BoundariesCut) (one : LinesMakeOnePhase) (may : SegmentsMayStan
         }
 
         copies : (counted_by : ℕ → Type 0) → counted_by above.refused → parts ≡ done ++ part ∷ []
-            → written ≡ out → CopiesAll parts taken written at_end counted_by
+            → written ≡ out → CopiesAll parts taken written reading.at_end counted_by
         copies counted_by holds same is = record {
           ended = ended;
           within = within;
@@ -77,23 +77,23 @@ module _ (cuts : BoundariesCut) (one : LinesMakeOnePhase) (may : SegmentsMayStan
         }
 
         says-refused : parts ≡ done ++ part ∷ [] → written ≡ out
-            → SaysCopied parts (status_at_end above.refused) taken written at_end
+            → SaysCopied parts (status_at_end above.refused) taken written reading.at_end
         says-refused same is = by (nat_lt 0 above.refused) refl
           where
             by : (some : Bool) → nat_lt 0 above.refused ≡ some
-                → SaysCopied parts (status_at_end above.refused) taken written at_end
+                → SaysCopied parts (status_at_end above.refused) taken written reading.at_end
             by true some =
-                subst (λ (b : Bool). SaysCopied parts (if b then statuses.Refused else Done) taken written at_end)
-                (sym some) (copies (λ refused. 1 ≤ refused) (grind (arith, nat_tests)) same is)
+                subst (λ (b : Bool). SaysCopied parts (if b then statuses.Refused else Done) taken written
+                reading.at_end) (sym some) (copies (λ refused. 1 ≤ refused) (grind (arith, nat_tests)) same is)
             by false some =
-                subst (λ (b : Bool). SaysCopied parts (if b then statuses.Refused else Done) taken written at_end)
-                (sym some) (copies (λ refused. refused ≡ 0) (grind (arith, nat_tests)) same is)
+                subst (λ (b : Bool). SaysCopied parts (if b then statuses.Refused else Done) taken written
+                reading.at_end) (sym some) (copies (λ refused. refused ≡ 0) (grind (arith, nat_tests)) same is)
 
       at-end : (t : State) (done left : List TracePart) (out : List ℕ) → Stood all t done out []
           → parts ≡ done ++ left → UsedAtEnd phased (at t) left
           → shown_on phased (shown_given shown_by_copy) (On (at t) left)
           → written ≡ out ++ last_of_way phased (On (at t) left)
-          → SaysCopied parts (way_ends phased (On (at t) left)) taken written at_end
+          → SaysCopied parts (way_ends phased (On (at t) left)) taken written reading.at_end
       at-end (Heading n stage) done left out stood same used_up shown prints = record {
         lines = all;
         judged = inr (ended, within, refl);
@@ -115,9 +115,9 @@ module _ (cuts : BoundariesCut) (one : LinesMakeOnePhase) (may : SegmentsMayStan
     shown-is_on Short shown = shown
 
     says-end : (ending : Status)
-        → Ends (behavior parts) (shown_on phased (shown_given shown_by_copy)) ending taken written at_end
+        → Ends (behavior parts) (shown_on phased (shown_given shown_by_copy)) ending taken written reading.at_end
         → OutcomesLeadToEnd phased phased.start parts (lines_of taken)
-        → SaysCopied parts ending taken written at_end
+        → SaysCopied parts ending taken written reading.at_end
     says-end ending ends leads =
         let lines = lines_of taken in
         let way = state_after (behavior parts) (behavior parts).start lines in
@@ -134,14 +134,14 @@ module _ (cuts : BoundariesCut) (one : LinesMakeOnePhase) (may : SegmentsMayStan
         ends.none_halts
         ∙ ap (λ (w : Way (Waiting State TracePart) TracePart). printed plain first lines ++ last_of_way phased w)
         uses.way in
-        subst (λ (status : Status). SaysCopied parts status taken written at_end)
+        subst (λ (status : Status). SaysCopied parts status taken written reading.at_end)
         (sym (ap (way_ends phased) uses.way) ∙ ends.ending_is)
         (at-end ends.ended ends.within (state_after plain first lines) (parts_made first lines) uses.others
         (printed plain first lines) (stood-after cuts one lines none) uses.used uses.asks
         (subst (shown_on phased (shown_given shown_by_copy)) uses.way ends.shown) prints)
 
     -- what stops it stops the plain behavior too
-    halts-plain : (halt : Status) (halts : Halts (behavior parts) halt taken written at_end)
+    halts-plain : (halt : Status) (halts : Halts (behavior parts) halt taken written reading)
         → HasAllOutcomes phased (On phased.start parts) halts.lines
         → (halted plain first halts.lines ≡ Some halt) × (written ≡ printed plain first halts.lines)
     halts-plain halt halts has =
@@ -157,19 +157,20 @@ module _ (cuts : BoundariesCut) (one : LinesMakeOnePhase) (may : SegmentsMayStan
         is ∙ alike.prints ∙ copied cuts one lines (sym alike.halt ∙ none)
 
     SaysCopied-phased : (status : Status)
-        → SaysPhased phased (shown_given shown_by_copy) parts status taken written at_end
-        → SaysCopied parts status taken written at_end
+        → SaysPhased phased (shown_given shown_by_copy) parts status taken written reading
+        → SaysCopied parts status taken written reading.at_end
     SaysCopied-phased Done says = says-end Done says.says says.made
     SaysCopied-phased Words says = absurd says.says
     SaysCopied-phased statuses.Header says = by says.says says.made
       where
-        by : (at : Halts (behavior parts) statuses.Header taken written at_end
-            ⊎ Ends (behavior parts) (shown_on phased (shown_given shown_by_copy)) statuses.Header taken written at_end)
-            → AreMade phased (shown_given shown_by_copy) parts taken written at_end statuses.Header at
-            → RefusesHeader taken written at_end
+        by : (at : Halts (behavior parts) statuses.Header taken written reading
+            ⊎ Ends (behavior parts) (shown_on phased (shown_given shown_by_copy)) statuses.Header taken written
+            reading.at_end)
+            → AreMade phased (shown_given shown_by_copy) parts taken written reading statuses.Header at
+            → RefusesHeader taken written reading.at_end
         by (inl halts) made =
             let stops = halts-plain statuses.Header halts made.1 in
-            refused-cut cuts one taken written at_end halts.lines halts.judged
+            refused-cut cuts one taken written reading.at_end halts.lines halts.judged
             (cut plain first halts.lines statuses.Header stops.0) stops.1
         by (inr ends) made = says-end statuses.Header ends made
     SaysCopied-phased statuses.Refused says = says-end statuses.Refused says.says says.made
@@ -181,16 +182,17 @@ module _ (cuts : BoundariesCut) (one : LinesMakeOnePhase) (may : SegmentsMayStan
         goes.none_halts)
         (goes.all_written ∙ ap (λ (text : List ℕ). printed (behavior parts) (behavior parts).start (whole_lines text))
         (sym whole)) says.made.1
-    SaysCopied-phased WriteFault says = begins-copy cuts one parts taken written at_end says.says
-    SaysCopied-phased Memory says = begins-copy cuts one parts taken written at_end says.says
+    SaysCopied-phased WriteFault says = begins-copy cuts one parts taken written reading says.says
+    SaysCopied-phased Memory says = begins-copy cuts one parts taken written reading says.says
     SaysCopied-phased TooLong says = by says.says says.made
       where
-        by : (at : Halts (behavior parts) TooLong taken written at_end ⊎ Oversteps (behavior parts) taken written)
-            → AreMade phased (shown_given shown_by_copy) parts taken written at_end TooLong at
-            → CopiesAboveLimit taken written at_end ⊎ CopiesMost taken written
+        by : (at : Halts (behavior parts) TooLong taken written reading ⊎ Oversteps (behavior parts) taken written
+            reading)
+            → AreMade phased (shown_given shown_by_copy) parts taken written reading TooLong at
+            → CopiesAboveLimit taken written reading.at_end ⊎ CopiesMost taken written
         by (inl halts) made =
             let stops = halts-plain TooLong halts made.1 in
-            inl (limited-cut cuts one taken written at_end halts.lines halts.judged
+            inl (limited-cut cuts one taken written reading.at_end halts.lines halts.judged
             (cut plain first halts.lines TooLong stops.0) stops.1)
         by (inr oversteps) made = inr (record {
           beyond = oversteps.beyond;
@@ -198,16 +200,16 @@ module _ (cuts : BoundariesCut) (one : LinesMakeOnePhase) (may : SegmentsMayStan
         })
     SaysCopied-phased statuses.NotCertified says = by says.says says.made
       where
-        by : (at : Halts (behavior parts) statuses.NotCertified taken written at_end
+        by : (at : Halts (behavior parts) statuses.NotCertified taken written reading
             ⊎ Ends (behavior parts) (shown_on phased (shown_given shown_by_copy)) statuses.NotCertified taken written
-            at_end)
-            → AreMade phased (shown_given shown_by_copy) parts taken written at_end statuses.NotCertified at → ⊥
+            reading.at_end)
+            → AreMade phased (shown_given shown_by_copy) parts taken written reading statuses.NotCertified at → ⊥
         by (inl halts) made =
             let stops = halts-plain statuses.NotCertified halts made.1 in
             let c = cut plain first halts.lines statuses.NotCertified stops.0 in
             never (state_after plain first c.front) c.line c.halts
         by (inr ends) made = says-end statuses.NotCertified ends made
 
-  pub CopiesTexts-holds : CopiesTexts
-  CopiesTexts-holds parts status taken written left says =
-      SaysCopied-phased parts taken written (IsAtEnd left) status says
+  pub CopiesTexts-holds : {R : Type 0} (left : R → Option (List ℕ)) (calls : R → ℕ) → CopiesTexts left calls
+  CopiesTexts-holds left calls parts status taken written src src' says =
+      SaysCopied-phased parts taken written (reading_of left calls src src') status says

@@ -13,7 +13,8 @@ use Rattle.vms_stream.specs.declared.statuses.Status.{Status}
 use Rattle.vms_stream.specs.declared.statuses.Status.TheVariants.{Done, Words, Refused, ReadFault, WriteFault, Memory}
 use Rattle.vms_stream.specs.declared.statuses.Status.TheVariants.{NotCertified, TooLong}
 use Rattle.vms_stream.specs.declared.statuses.Status.TheVariants as statuses
-use Rattle.vms_stream.specs.Common.{AreLinesTaken, SaysPhased, halted, lines_taken, most_bytes, plainly, waiting}
+use Rattle.vms_stream.specs.Common.{AreLinesTaken, SaysPhased, halted, lines_taken, most_bytes, plainly, reading_of}
+use Rattle.vms_stream.specs.Common.{waiting}
 use Rattle.vms_command.specs.Common.{come_to, following, header_line, nothing_above, shown_given}
 use Rattle.vms_trace_parts.specs.Copying.{copying, shown_by_copy}
 use Rattle.vms_trace_parts.specs.Parts.{BeginAfter, TracePart, segments_of_parts}
@@ -120,7 +121,8 @@ SaysCopied parts TooLong taken written at_end =
 SaysCopied parts NotCertified taken written at_end = ⊥
 
 -- so it is by the text wherever a copy says it line by line
-abbrev pub CopiesTexts : Type 0
-CopiesTexts = (parts : List TracePart) (status : Status) (taken written : List ℕ) (left : Option (List ℕ))
-    → SaysPhased (waiting (following copying)) (shown_given shown_by_copy) parts status taken written (IsAtEnd left)
-    → SaysCopied parts status taken written (IsAtEnd left)
+abbrev pub CopiesTexts : {R : Type 0} → (R → Option (List ℕ)) → (R → ℕ) → Type 0
+CopiesTexts {R} left calls = (parts : List TracePart) (status : Status) (taken written : List ℕ) (src src' : R)
+    → SaysPhased (waiting (following copying)) (shown_given shown_by_copy) parts status taken written
+    (reading_of left calls src src')
+    → SaysCopied parts status taken written (IsAtEnd (left src'))

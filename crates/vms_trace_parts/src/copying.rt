@@ -19,7 +19,8 @@ pub fn copy_trace<S: Source, K: Sink>(
     out: &mut K,
 ) -> (Status, TraceParts)
     ensures { AnswersPhased (waiting (following copying)) (shown_given shown_by_copy) (Some [])
-        (Some (parts_of result.1)) S.remaining S.faults K.written K.faults src.old src.new out.old out.new result.0 }
+        (Some (parts_of result.1)) S.remaining S.faults S.calls K.written K.faults K.calls src.old src.new out.old
+        out.new result.0 }
 {
     follow::<TraceCopy, S, K>(alloc, TraceParts::none(alloc), src, out)
 }

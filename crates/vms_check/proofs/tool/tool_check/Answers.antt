@@ -8,5 +8,5 @@ use Rattle.vms_check.proofs.tool.tool_check.Goals as goal
 pub returns : goal.returns
 returns g c =
     TakesAndWrites-plain checking IsPlain-checking (λ header above kept given. Unit {0}) None None g.S.Source.remaining
-    g.S.Source.faults g.K.Sink.written g.K.Sink.faults c.args.src.now c.follow.new.src c.args.out.now c.follow.new.out
-    c.follow.result.0 c.follow.ensures
+    g.S.Source.faults g.S.Source.calls g.K.Sink.written g.K.Sink.faults g.K.Sink.calls c.args.src.now c.follow.new.src
+    c.args.out.now c.follow.new.out c.follow.result.0 c.follow.ensures

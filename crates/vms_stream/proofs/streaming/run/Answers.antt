@@ -12,7 +12,8 @@ pub returns-in_err-course : goal.returns-in_err-course
 returns-in_err-course g c =
     let p = err_from_is_err_and c.from_residual.result c.from_residual.ensures.1 in
     rw p.1 (AnswersPhased-unbegun g.J.Job.behavior g.J.Job.Shows (g.J.Job.made c.args.engine.now)
-    g.S.Source.remaining g.S.Source.faults g.K.Sink.written g.K.Sink.faults c.args.src.now c.args.out.now p.0 p.2)
+    g.S.Source.remaining g.S.Source.faults g.S.Source.calls g.K.Sink.written g.K.Sink.faults g.K.Sink.calls
+    c.args.src.now c.args.out.now p.0 p.2)
 
 pub pieces-init : goal.pieces-init
 pieces-init g c =
@@ -34,7 +35,7 @@ pieces-init g c =
 pub pieces-preserved : goal.pieces-preserved
 pieces-preserved g c =
     let inv = c.pieces.invariant in
-    let steps = c.in_ok-step.ensures.steps inv.outcomes inv.taken inv.written inv.course in
+    let steps = c.in_ok-step.ensures.steps c.args.src.now inv.outcomes inv.taken inv.written inv.consumes inv.course in
     record {
       outcomes = inv.outcomes ++ steps.further;
       taken = inv.taken ++ steps.more;
@@ -53,17 +54,18 @@ returns-in_err-step g c =
     let p = err_from_is_err_and c.from_residual-in_err-step.result c.from_residual-in_err-step.ensures.1 in
     let inv = c.pieces.invariant in
     rw (p.1, p.2) (AnswersPhased-stopped g.J.Job.behavior g.J.Job.Shows g.S.Source.remaining
-    g.S.Source.faults g.K.Sink.written g.K.Sink.faults inv.outcomes inv.taken inv.written _ _ _ _ _ _ _ _ _ inv.grows
-    inv.consumes inv.appends inv.reads inv.writes (g.J.Job.Stands c.step.new.job) c.step.new.self _
-    (c.in_err-step.ensures.steps inv.outcomes inv.taken inv.written inv.course)
+    g.S.Source.faults g.S.Source.calls g.K.Sink.written g.K.Sink.faults g.K.Sink.calls inv.outcomes inv.taken
+    inv.written _ _ _ _ _ _ _ _ _ inv.grows inv.consumes inv.appends inv.reads inv.writes
+    (g.J.Job.Stands c.step.new.job) c.step.new.self _
+    (c.in_err-step.ensures.steps c.args.src.now inv.outcomes inv.taken inv.written inv.consumes inv.course)
     c.in_err-step.ensures.reads c.in_err-step.ensures.writes)
 
 pub returns : goal.returns
 returns g c =
     let inv = c.pieces.invariant in
-    AnswersPhased-ended g.J.Job.behavior g.J.Job.Shows g.S.Source.remaining g.S.Source.faults
-    g.K.Sink.written g.K.Sink.faults inv.outcomes inv.taken inv.written _ _ _ c.args.src.now c.pieces.src c.pieces.src
-    c.args.out.now c.pieces.out c.finish.new.out inv.grows inv.consumes inv.appends inv.reads inv.writes
-    c.finish.result (inv.ended c.pieces-test.false)
-    (c.finish.ensures.finishes inv.outcomes inv.taken inv.written inv.course)
-    c.finish.ensures.reads c.finish.ensures.writes
+    AnswersPhased-ended g.J.Job.behavior g.J.Job.Shows g.S.Source.remaining g.S.Source.faults g.S.Source.calls
+    g.K.Sink.written g.K.Sink.faults g.K.Sink.calls inv.outcomes inv.taken inv.written _ _ _ c.args.src.now c.pieces.src
+    c.pieces.src c.args.out.now c.pieces.out c.finish.new.out inv.grows inv.consumes inv.appends inv.reads inv.writes
+    c.finish.result
+    (c.finish.ensures.finishes c.args.src.now c.pieces.src inv.outcomes inv.taken inv.written inv.consumes
+    (inv.ended c.pieces-test.false) inv.course) c.finish.ensures.reads c.finish.ensures.writes

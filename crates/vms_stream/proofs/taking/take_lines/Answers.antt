@@ -67,8 +67,8 @@ pub returns-in_err-write_above-clause-counts : goal.returns-in_err-write_above-c
 returns-in_err-write_above-clause-counts g c =
     let p = err_from_is_err_and c.from_residual-in_err-write_above.result
     c.from_residual-in_err-write_above.ensures.1 in
-    rw (p.1, p.2) (writes_after g.K.Sink.written g.K.Sink.faults c.args.out.now c.lines.out c.write_above.new.out _
-    c.lines.invariant.writes c.in_err-write_above.ensures.counts)
+    rw (p.1, p.2) (writes_after g.K.Sink.written g.K.Sink.faults g.K.Sink.calls c.args.out.now c.lines.out
+    c.write_above.new.out _ c.lines.invariant.writes c.in_err-write_above.ensures.counts)
 
 pub lines-preserved : goal.lines-preserved
 lines-preserved g c =

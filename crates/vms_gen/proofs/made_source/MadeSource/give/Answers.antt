@@ -8,14 +8,15 @@ use Rattle.vms_gen.proofs.made_source.MadeSource.give.Goals.{then-self-len+in-So
 pub returns-clause-bytes : goal.returns-clause-bytes
 returns-clause-bytes c =
     let inside = c.self.inside in let now = c.if-self-len.self-inside in let n = c.min-count.result in
-    let left : the_view now ≡ c.args.self.now = elim c.if-self-len.branch [
+    let left : (the_view now).left ≡ c.args.self.now.left = elim c.if-self-len.branch [
       | then-self-len+in-Some w ↦
-          ap the_view w.self-inside-is
+          ap (λ source. (the_view source).left) w.self-inside-is
           ∙ line-spent inside.line.items w.in-Some.line.items (flat_map sentence (lines_left w.next_line.new.self))
           (flat_map sentence (lines_left inside.unmade)) inside.given (w.if-self-len.true ∙ c.len.ensures.value)
           w.in-Some.ensures.some
-          ∙ c.self.view_is
-      | else-self-len w ↦ ap the_view w.self-inside-is ∙ c.self.view_is
+          ∙ ap (λ supply. supply.left) c.self.view_is
+      | else-self-len w ↦ ap (λ source. (the_view source).left) w.self-inside-is
+          ∙ ap (λ supply. supply.left) c.self.view_is
     ] in
     let within : now.given ≤ length now.line.items = elim c.if-self-len.branch [
       | then-self-len+in-Some w ↦ omega (arith, ap (λ source. source.given) w.self-inside-is)
