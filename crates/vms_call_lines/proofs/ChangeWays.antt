@@ -11,7 +11,8 @@ use Rattle.vms_plans.specs.Common.{makes_all}
 use Rattle.vms_plain_pages.specs.Common.{effect_by}
 use Rattle.vms_written_lines.specs.Spelling.{event_line}
 use Rattle.vms_written_lines.specs.WideSteps.{widened}
-use Rattle.vms_call_lines.specs.Lines.{WritesWay, step_lines}
+use Rattle.vms_rating_lines.specs.Lines.{step_lines}
+use Rattle.vms_call_lines.specs.Lines.{WritesWay}
 use Rattle.vms_call_lines.specs.Ways.{led}
 use Rattle.vms_call_lines.proofs.OneSteps.{one-exchange, one-group, one-threshold}
 use Rattle.vms_call_lines.proofs.Writing.{begins-step, writes-all, writes-then}

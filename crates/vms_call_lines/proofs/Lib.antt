@@ -5,3 +5,8 @@ pub mod OneSteps
 pub mod LookWays
 pub mod TestWays
 pub mod ChangeWays
+pub mod LegalSteps
+pub mod CallLines
+pub mod OrderWays
+pub mod FoldLines
+pub mod ControlLines

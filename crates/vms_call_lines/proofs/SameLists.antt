@@ -17,12 +17,14 @@ one_list w w' same =
     subst (λ (values : List ℤ). (bytes : AreBytes values) → w ≡ diffs_of values bytes) same
     (λ bytes. ap (diffs_of w.values) (are_bytes-prop w.values w.bytes bytes)) w'.bytes
 
-pub told_once : (s : State) (c j : ℕ) (w w' : Diffs) → TellsGroup s c j w.values → TellsGroup s c j w'.values
-    → w ≡ w'
-told_once s c j w w' tells tells' =
-    one_list w w' (ext_get_or (pos 0) w.values w'.values (tells.eight ∙ sym tells'.eight) each)
+pub told-values : (s : State) (c j : ℕ) (ws vs : List ℤ) → TellsGroup s c j ws → TellsGroup s c j vs → ws ≡ vs
+told-values s c j ws vs tells tells' = ext_get_or (pos 0) ws vs (tells.eight ∙ sym tells'.eight) each
   where
-    each : (i : ℕ) → i < length w.values → slice_index_or w.values i (pos 0) ≡ slice_index_or w'.values i (pos 0)
+    each : (i : ℕ) → i < length ws → slice_index_or ws i (pos 0) ≡ slice_index_or vs i (pos 0)
     each i below =
         let inside : i < 8 = omega (arith, below, tells.eight) in
         tells.each i inside ∙ sym (tells'.each i inside)
+
+pub told_once : (s : State) (c j : ℕ) (w w' : Diffs) → TellsGroup s c j w.values → TellsGroup s c j w'.values
+    → w ≡ w'
+told_once s c j w w' tells tells' = one_list w w' (told-values s c j w.values w'.values tells tells')

@@ -8,16 +8,11 @@ use Rattle.vms_plans.specs.Common.{Plan, and_then, ends, makes_all, waits}
 use Rattle.vms_plain_pages.specs.Common.{effect_by}
 use Rattle.vms_written_lines.specs.Spelling.{event_line}
 use Rattle.vms_written_lines.specs.WideSteps.{widened}
-use Rattle.vms_call_lines.specs.Lines.{BeginsWriting, WritesWay, step_lines}
+use Rattle.vms_rating_lines.specs.Lines.{step_lines}
+use Rattle.vms_rating_lines.proofs.Common.{lines-append}
+use Rattle.vms_call_lines.specs.Lines.{BeginsWriting, WritesWay}
 use Rattle.vms_call_lines.specs.Ways.{IsOnlyWay, led}
 use Rattle.vms_call_lines.proofs.Ways.{IsOneStep, led-append, only-and_then, only-ends, only-waits}
-
-pub lines-append : (p : ℕ) (first rest : List Step)
-    → step_lines p (first ++ rest) ≡ step_lines p first ++ step_lines p rest
-lines-append p [] rest = refl
-lines-append p (x ∷ first) rest =
-    ap (λ ys. event_line p (widened x) ++ ys) (lines-append p first rest)
-    ∙ sym (append_assoc (event_line p (widened x)) (step_lines p first) (step_lines p rest))
 
 module _ {A : Type 0} (who : Option CpuId) (p : ℕ) where
   pub begins-nothing : (plan : Plan A) (s : State) (out : List ℕ) → BeginsWriting who plan s p out out plan s

@@ -1,2 +1,4 @@
 pub mod Ways
 pub mod Lines
+pub mod Calls
+pub mod Folds

@@ -1,14 +1,9 @@
--- The lines of the steps of a caller.
-use Rattle.std.specs.Prelude.{◌≡◌, ℕ, List, [], ◌∷◌, ◌++◌, Option}
+-- The lines of a way through a plan.
+use Rattle.std.specs.Prelude.{◌≡◌, ℕ, List, ◌++◌, Option}
 use Rattle.vms_calls.specs.Common.{CpuId, State, Step}
 use Rattle.vms_plans.specs.Common.{Plan}
-use Rattle.vms_written_lines.specs.Spelling.{event_line}
-use Rattle.vms_written_lines.specs.WideSteps.{widened}
+use Rattle.vms_rating_lines.specs.Lines.{step_lines}
 use Rattle.vms_call_lines.specs.Ways.{IsOnlyWay, led}
-
-abbrev pub step_lines : ℕ → List Step → List ℕ
-step_lines p [] = []
-step_lines p (step ∷ steps) = event_line p (widened step) ++ step_lines p steps
 
 -- the lines of the only way through a plan are written, which answers this and leads to the next state
 pub record WritesWay {A : Type 0} (who : Option CpuId) (plan : Plan A) (s : State) (p : ℕ) (out out' : List ℕ)

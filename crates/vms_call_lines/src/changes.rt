@@ -5,7 +5,8 @@ ghost use Rattle.std.specs.Int.{w64};
 ghost use Rattle.std.specs.Int.RustNames.{FitsSigned};
 ghost use Rattle.vms_calls.specs.Common.{HasShape, IsCounter, IsCpu, State, carried_by, entry};
 ghost use Rattle.vms_plans.specs.Common.{carrying, change_plan};
-ghost use Rattle.vms_call_lines.specs.Lines.{WritesWay, step_lines};
+ghost use Rattle.vms_rating_lines.specs.Lines.{step_lines};
+ghost use Rattle.vms_call_lines.specs.Lines.{WritesWay};
 
 use crate::loads::{load_group, load_threshold};
 use vms_base::{CounterId, CpuId, Diffs, Layout, Memory, Mode};
@@ -13,7 +14,7 @@ use vms_core::{Plain, Step, overstep};
 use vms_written_lines::push_event_line;
 
 /// A change of a counter of a CPU by its owner, by `delta` pages.
-pub fn write_change(
+pub(crate) fn write_change(
     out: &mut Vec<u8>,
     caller: u32,
     pages: &Plain,

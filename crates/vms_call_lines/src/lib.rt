@@ -1,11 +1,14 @@
-//! Writes the events of a call on plain page counters, by what stands in them.
+//! Makes calls on plain page counters and writes the events of each, by what stands in them.
 #![tactic(auto)]
 
+mod burials;
+mod calls;
 mod changes;
+mod folds;
 mod loads;
 mod looks;
+mod orders;
 mod tests;
+mod turns;
 
-pub use changes::write_change;
-pub use looks::{write_snapshot, write_system, write_value};
-pub use tests::write_test;
+pub use calls::write_call;

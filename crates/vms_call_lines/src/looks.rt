@@ -1,7 +1,8 @@
 //! The calls that look at values.
 
-ghost use Rattle.std.specs.Prelude.{◌≡◌, ◌+◌, ◌*◌, ◌<◌, ◌≤◌, ◌^◌, ◌+ℤ◌, ℕ, ℤ, suc, IfOk, Option, length, unsigned_abs};
-ghost use Rattle.vms_calls.specs.Common.{CpuId, IsCounter, IsCpu, at_least_zero, counters_of};
+ghost use Rattle.std.specs.Prelude.{◌≡◌, ◌+◌, ◌*◌, ◌<◌, ◌≤◌, ◌^◌, ◌+ℤ◌, ℕ, ℤ, suc, IfOk, OnOk, Option, length};
+ghost use Rattle.std.specs.Prelude.{unsigned_abs};
+ghost use Rattle.vms_calls.specs.Common.{CpuId, IsCounter, IsCpu, IsLayout, at_least_zero, counters_of};
 ghost use Rattle.vms_calls.specs.Common.{is_online as tells_online};
 ghost use Rattle.vms_plain_pages.specs.Common.{IsSmallState};
 ghost use Rattle.vms_plans.specs.Common.{looks_plan, snapshot_plan, system_plan, value_plan};
@@ -12,7 +13,7 @@ use vms_base::{CounterId, CpuId, CpuState, ItemId, Layout, Memory};
 use vms_core::Plain;
 
 /// The global value of a counter, in pages, and 0 where it is negative.
-pub fn write_value(
+pub(crate) fn write_value(
     out: &mut Vec<u8>,
     caller: u32,
     pages: &Plain,
@@ -27,7 +28,7 @@ pub fn write_value(
 }
 
 /// The system-wide value of an item, in pages, and 0 where it is negative.
-pub fn write_system(
+pub(crate) fn write_system(
     out: &mut Vec<u8>,
     caller: u32,
     pages: &Plain,
@@ -42,7 +43,7 @@ pub fn write_system(
 }
 
 /// The global value of a counter with what the online CPUs have not folded yet, in pages, and 0 where that is negative.
-pub fn write_snapshot(
+pub(crate) fn write_snapshot(
     out: &mut Vec<u8>,
     caller: u32,
     pages: &Plain,
@@ -51,8 +52,9 @@ pub fn write_snapshot(
 ) -> Result<u64, Memory>
     requires room { IsSmallState layout.now (2 ^ 61) pages.now }
     requires counter { IsCounter layout.now counter.number }
-    ensures { IfOk result (λ answer. (who : Option CpuId) →
-        WritesWay who (snapshot_plan layout.now counter) pages.now caller out.old.items out.new.items answer pages.now) }
+    ensures writes { IfOk result (λ answer. (who : Option CpuId) → WritesWay who (snapshot_plan layout.now counter)
+        pages.now caller out.old.items out.new.items answer pages.now) }
+    ensures is_layout { OnOk result (IsLayout layout.now) }
 {
     let mut sum = load_value(out, caller, pages, counter)?;
     for number in 0..layout.cpus() {

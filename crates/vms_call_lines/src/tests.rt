@@ -15,7 +15,7 @@ use vms_core::{MarkRead, Plain};
 
 /// A test whether a zone has more free pages than a watermark asks for, for a request that may use the zones of its
 /// node up to the zone index `most`.
-pub fn write_test(
+pub(crate) fn write_test(
     out: &mut Vec<u8>,
     caller: u32,
     pages: &Plain,

@@ -1,4 +1,4 @@
--- How a history goes on by a call that is made on plain page counters.
+-- For other crates too: how a history goes on by a call that is made on plain page counters.
 use Rattle.std.proofs.Common.{◌≡◌, ◌≢◌, ℕ, false, ℤ, List, Option, Some, None, refl, sym, ap, subst, ◌∙◌}
 use Rattle.vms_calls.specs.Common.{Header, CounterId, CpuId, Mode, ZoneSize, GivesThresholds, State, facts_of, pages}
 use Rattle.vms_calls.specs.Common.{History, HasWon, LeadsOn}

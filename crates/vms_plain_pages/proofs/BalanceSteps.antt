@@ -1,4 +1,4 @@
--- The steps of a balance test: zones are tested up to the first that passes.
+-- For other crates too: the steps of a balance test: zones are tested up to the first that passes.
 use Rattle.std.proofs.Common.{◌≡◌, ℕ, suc, ◌^◌, ◌<◌, Bool, true, false, List, [], ◌∷◌, ◌++◌, length, Option, Some, refl}
 use Rattle.std.proofs.Common.{if◌then◌else◌, arith}
 use Rattle.std.specs.List.{find}

@@ -1,4 +1,4 @@
--- Places that a fold visits one after another, and the whole fold.
+-- For other crates too: places that a fold visits one after another, and the whole fold.
 use Rattle.std.proofs.Common.{◌≡◌, ◌≢◌, ℕ, suc, ◌+◌, ◌*◌, ◌/◌, ◌<◌, ◌≤◌, ⊎_elim, inl, ◌&&◌, nat_eq, nat_lt, Bool, true}
 use Rattle.std.proofs.Common.{false, ℤ, pos, ◌+ℤ◌, List, [], ◌∷◌, ◌++◌, length, get_or, Option, Some, None}
 use Rattle.std.proofs.Common.{if◌then◌else◌, refl, sym, ap, subst, ◌∙◌, arith, append_assoc, length-append, length-set}

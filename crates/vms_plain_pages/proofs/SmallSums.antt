@@ -1,4 +1,4 @@
--- Sums of the items that stay small.
+-- For other crates too: sums of the items that stay small.
 use Rattle.std.proofs.Common.{◌≡◌, ℕ, ◌≤◌, ℤ, pos, List, unsigned_abs, subst, sym, arith}
 use Rattle.std.specs.Prelude.{replicate}
 use Rattle.vms_plain_pages.specs.Common.{AreSums, sum_at}

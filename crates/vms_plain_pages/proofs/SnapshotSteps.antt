@@ -1,4 +1,4 @@
--- The steps of a snapshot: each CPU is looked at.
+-- For other crates too: the steps of a snapshot: each CPU is looked at.
 use Rattle.std.proofs.Common.{◌≡◌, ◌≢◌, ℕ, zero, suc, ◌+◌, ◌*◌, ◌/◌, ◌%◌, ◌^◌, ◌≤◌, ℤ, pos, ◌+ℤ◌, false, List, [], ◌∷◌}
 use Rattle.std.proofs.Common.{length, Option, if◌then◌else◌, refl, ap, sym, ◌<◌, ◌∙◌, arith}
 use Rattle.std.proofs.lemmas.Int.{ints}

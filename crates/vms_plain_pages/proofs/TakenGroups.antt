@@ -1,4 +1,4 @@
--- A group that a fold takes: each of its differentials is added to a global value and to a sum.
+-- For other crates too: a group that a fold takes: each of its differentials is added to a global value and to a sum.
 use Rattle.std.proofs.Common.{◌≡◌, ◌≢◌, ℕ, zero, suc, ◌+◌, ◌-◌, ◌*◌, ◌<◌, ◌≤◌, ◌⊎◌, inl, inr, nat_eq, ◌&&◌, Bool, true}
 use Rattle.std.proofs.Common.{false, ℤ, pos, negsuc, ◌+ℤ◌, ◌≤ℤ◌, unsigned_abs, List, [], ◌∷◌, ◌++◌, length, get_or}
 use Rattle.std.proofs.Common.{drop, Option, None, if◌then◌else◌, refl, sym, ap, subst, ◌∙◌, arith, length-set}

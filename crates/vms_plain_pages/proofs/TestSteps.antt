@@ -1,4 +1,4 @@
--- The steps of a test of a watermark.
+-- For other crates too: the steps of a test of a watermark.
 use Rattle.std.proofs.Common.{◌≡◌, ℕ, ◌^◌, ◌&&◌, ◌||◌, nat_eq, not, Bool, true, false, List, [], ◌∷◌, Option}
 use Rattle.std.proofs.Common.{if◌then◌else◌, refl, sym, ap, subst, eq-eqb, arith}
 use Rattle.vms_calls.specs.Common.{Header, CpuId, PlaceId, WaterMark, Shape, IsLayout, IsZone, counter_at, LeadsOn}

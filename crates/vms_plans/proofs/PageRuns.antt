@@ -1,4 +1,4 @@
--- The steps of a call on the page counters are those that run through its plan.
+-- For other crates too: the steps of a call on the page counters are those that run through its plan.
 use Rattle.std.proofs.Common.{ℕ, List, subst}
 use Rattle.std.specs.Prelude.{Option, Some, None}
 use Rattle.vms_calls.specs.Common.{Header, CpuId, ZoneSize, State, Step, History, facts_of, ByNormal, ByPressure}

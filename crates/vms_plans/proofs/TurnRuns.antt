@@ -1,4 +1,5 @@
--- The steps of a test for an order, of a balance test and of a turn of kswapd are those that run through their plans.
+-- For other crates too: the steps of a test for an order, of a balance test and of a turn of kswapd are those that run
+-- through their plans.
 use Rattle.std.proofs.Common.{◌≡◌, ℕ, suc, zero, nat_eq, Bool, true, false, List, [], ◌∷◌, ◌++◌, refl, sym, ap, subst}
 use Rattle.std.proofs.Common.{◌∙◌, append-nil, true≢false, Option, Some, None, is_some}
 use Rattle.std.proofs.lemmas.Bool.{eqb-true, ne_eqb}

@@ -44,8 +44,8 @@ loop-number-preserved c =
           (c.loop-number.invariant.looks who) (look.look who);
     }
 
-pub returns : goal.returns
-returns c = λ who.
+pub returns-clause-writes : goal.returns-clause-writes
+returns-clause-writes c = λ who.
     writes-snapshot who c.args.pages.now c.args.caller c.args.counter c.args.layout.now c.in_ok-sum.sum _
     (to_z w64 c.loop-number.sum-bits) c.loop-number.number c.clamped.result c.args.out.now.items
     c.load_value.new.out.items c.loop-number.out.items c.in_ok-sum.ensures.load.0 c.in_ok-sum.ensures.load.1

@@ -27,4 +27,4 @@ returns c = λ who.
     c.limit-limit.result c.in_ok-free.free c.args.value c.counter-counter.result c.args.out.now.items
     c.write_snapshot.new.out.items c.limit-limit.ensures.value
     (ap (λ (n : ℕ). let x : CounterId = record { number = n } in x) c.counter-counter.ensures.value)
-    (c.in_ok-free.ensures who))
+    (c.in_ok-free.ensures.writes who))

@@ -1,0 +1,10 @@
+pub mod LeftPlaces
+pub mod ThresholdSets
+pub mod ToldVisits
+pub mod ToldNodes
+pub mod ToldCalls
+pub mod WrittenRatings
+pub mod StepLines
+pub mod LinesLeft
+pub mod VisitLines
+pub mod Common

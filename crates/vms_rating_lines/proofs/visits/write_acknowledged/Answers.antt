@@ -1,0 +1,40 @@
+-- What the next CPU acknowledged is loaded, if it is online.
+use Rattle.std.proofs.Common.{◌≡◌, ℕ, ◌<◌, ◌++◌, length, Option, sym, ap, ◌∙◌, arith}
+use Rattle.vms_calls.specs.Common.{CpuId, LoadA, Step, acknowledged_at, is_online, state_at}
+use Rattle.vms_written_lines.specs.Spelling.{event_line}
+use Rattle.vms_written_lines.specs.WideSteps.{widened}
+use Rattle.vms_rating_lines.specs.Lines.{step_lines}
+use Rattle.vms_rating_lines.proofs.LinesLeft.{online-next, online-turns, other-next}
+use Rattle.vms_rating_lines.proofs.visits.write_acknowledged.Goals as goal
+use Rattle.vms_rating_lines.proofs.visits.write_acknowledged.Goals.{then-is_online+in_ok-push_event_line}
+use Rattle.vms_rating_lines.proofs.visits.write_acknowledged.Goals.{else-is_online}
+
+pub loop-number-init : goal.loop-number-init
+loop-number-init c = ap (λ ks. c.args.out.now.items ++ step_lines c.args.caller ks)
+    (online-turns (λ d. LoadA d c.args.zone (acknowledged_at c.args.pages.now d.number c.args.zone.number))
+    0 c.args.pages.now.cpu)
+
+pub loop-number-preserved : goal.loop-number-preserved
+loop-number-preserved c =
+    let p = c.args.caller in
+    let s = c.args.pages.now in
+    let g = c.args.zone in
+    let n = c.loop-number.number in
+    let out = c.loop-number.out.items in
+    let told : CpuId → Step = λ d. LoadA d g (acknowledged_at s d.number g.number) in
+    let within : n < length s.cpu =
+    omega (arith, c.loop-number-test.true, c.cpus-number-end.ensures.value, c.requires.shaped.cpu) in
+    let online : is_online (state_at s.cpu n) ≡ c.is_online.result =
+    ap is_online (sym c.load_state.ensures) ∙ sym c.is_online.ensures in
+    elim c.if-is_online.branch [
+      | then-is_online+in_ok-push_event_line w ↦
+          let cpu : CpuId = record { number = n } in
+          online-next p s.cpu n within _ out c.if-is_online.out.items told c.loop-number.invariant
+          (online ∙ w.if-is_online.true)
+          (ap (λ (v : _). v.items) w.out-is ∙ w.in_ok-push_event_line.ensures.ok
+          ∙ ap (λ (x : Option ℕ). out ++ event_line p (widened (LoadA cpu g x))) w.load_acknowledged-newest.ensures)
+      | else-is_online w ↦
+          other-next p s.cpu n within _ out c.if-is_online.out.items told c.loop-number.invariant
+          (online ∙ w.if-is_online.false)
+          (ap (λ (v : _). v.items) w.out-is)
+    ]
