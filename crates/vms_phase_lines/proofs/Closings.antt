@@ -1,14 +1,13 @@
--- The passes of lanes end one after another.
+-- The passes of lanes end one after another, and their lines are written.
 use Rattle.std.proofs.Common.{◌≡◌, ℕ, zero, suc, ◌+◌, ◌<◌, List, [], ◌∷◌, ◌++◌, length, take, refl, sym, ap, subst, ◌∙◌}
 use Rattle.std.proofs.Common.{arith}
-use Rattle.vms_world.specs.Common.{Facts, Lane, after}
+use Rattle.vms_world.specs.Common.{Lane, after}
 use Rattle.vms_core.specs.declared.steps.Step.TheVariants.{Join}
 use Rattle.vms_core.specs.Pages.{History}
 use Rattle.vms_written_lines.specs.Spelling.{event_line}
 use Rattle.vms_written_lines.specs.WideSteps.{widened}
 use Rattle.vms_file_order.specs.Common.{closing_of, ends_from, page_passes}
-use Rattle.vms_phase_lines.specs.declared.pages.WrittenPages.{WrittenPages}
-use Rattle.vms_phase_lines.specs.Common.{AreAfter, event_lines}
+use Rattle.vms_phase_lines.specs.Common.{event_lines}
 use Rattle.vms_phase_lines.proofs.EventLines.{lines-more}
 
 take-all : (lanes : List Lane) → take (length lanes) lanes ≡ lanes
@@ -28,42 +27,27 @@ ends-more m (suc n) (lane ∷ lanes) g below =
     ∙ ap (λ (q : ℕ). record { caller = 0; step = Join q }
     ∷ after 0 (ends_from page_passes (suc m) (take n lanes)) (record { caller = 0; step = Join m } ∷ g)) at
 
--- the passes of the first n lanes have ended
-abbrev pub ended_first : List Lane → ℕ → History → History
-ended_first lanes n h = after 0 (ends_from page_passes 1 (take n lanes)) h
+-- the passes of the first n lanes end
+abbrev pub ended_first : List Lane → ℕ → History
+ended_first lanes n = after 0 (ends_from page_passes 1 (take n lanes)) []
 
-pub record HaveEnded (facts : Facts) (lanes : List Lane) (h : History) (n : ℕ) (pages : WrittenPages)
-    (out out' : List ℕ) : Type 0 where
-  pub are : AreAfter facts (ended_first lanes n h) pages
-  pub lines : out' ≡ out ++ event_lines (ended_first lanes n [])
-
-ended-next : (lanes : List Lane) (n : ℕ) (h : History) → n < length lanes
-    → record { caller = 0; step = Join (n + 1) } ∷ ended_first lanes n h ≡ ended_first lanes (n + 1) h
-ended-next lanes n h below =
+ended-next : (lanes : List Lane) (n : ℕ) → n < length lanes
+    → record { caller = 0; step = Join (n + 1) } ∷ ended_first lanes n ≡ ended_first lanes (n + 1)
+ended-next lanes n below =
     let at : n + 1 ≡ 1 + n = omega arith in
     let next : n + 1 ≡ suc n = omega arith in
-    ap (λ (q : ℕ). record { caller = 0; step = Join q } ∷ ended_first lanes n h) at
-    ∙ sym (ends-more 1 n lanes h below) ∙ ap (λ (m : ℕ). ended_first lanes m h) (sym next)
+    ap (λ (q : ℕ). record { caller = 0; step = Join q } ∷ ended_first lanes n) at
+    ∙ sym (ends-more 1 n lanes [] below) ∙ ap (λ (m : ℕ). ended_first lanes m) (sym next)
 
-module _ (facts : Facts) (lanes : List Lane) (h : History) (n : ℕ) (pages : WrittenPages) (out out' : List ℕ) where
-  pub HaveEnded-more : HaveEnded facts lanes h n pages out out' → n < length lanes → (pages' : WrittenPages)
-      → (last : List ℕ) → last ≡ out' ++ event_line 0 (widened (Join (n + 1)))
-      → ((facts : Facts) (h : History) → AreAfter facts h pages
-      → AreAfter facts (record { caller = 0; step = Join (n + 1) } ∷ h) pages')
-      → HaveEnded facts lanes h (n + 1) pages' out last
-  HaveEnded-more ended below pages' last line on = record {
-    are = subst (λ (g : History). AreAfter facts g pages') (ended-next lanes n h below)
-        (on facts (ended_first lanes n h) ended.are);
-    lines = lines-more out out' last (ended_first lanes n []) 0 (Join (n + 1)) ended.lines line
-        ∙ ap (λ (g : History). out ++ event_lines g) (ended-next lanes n [] below);
-  }
+module _ (lanes : List Lane) (n : ℕ) (out out' : List ℕ) (lines : out' ≡ out ++ event_lines (ended_first lanes n)) where
+  pub lines-ended : n < length lanes → (last : List ℕ) → last ≡ out' ++ event_line 0 (widened (Join (n + 1)))
+      → last ≡ out ++ event_lines (ended_first lanes (n + 1))
+  lines-ended below last line =
+      lines-more out out' last (ended_first lanes n) 0 (Join (n + 1)) lines line
+      ∙ ap (λ (g : History). out ++ event_lines g) (ended-next lanes n below)
 
   -- all have ended
-  pub all-ended : HaveEnded facts lanes h n pages out out' → n ≡ length lanes
-      → AreAfter facts (closing_of page_passes lanes h) pages
-      × (out' ≡ out ++ event_lines (closing_of page_passes lanes []))
-  all-ended ended is =
-      let all : take n lanes ≡ lanes = ap (λ (m : ℕ). take m lanes) is ∙ take-all lanes in (
-        subst (λ (ls : List Lane). AreAfter facts (after 0 (ends_from page_passes 1 ls) h) pages) all ended.are,
-        subst (λ (ls : List Lane). out' ≡ out ++ event_lines (after 0 (ends_from page_passes 1 ls) [])) all ended.lines,
-      )
+  pub lines-all_ended : n ≡ length lanes → out' ≡ out ++ event_lines (closing_of page_passes lanes [])
+  lines-all_ended is =
+      subst (λ (ls : List Lane). out' ≡ out ++ event_lines (after 0 (ends_from page_passes 1 ls) []))
+      (ap (λ (m : ℕ). take m lanes) is ∙ take-all lanes) lines

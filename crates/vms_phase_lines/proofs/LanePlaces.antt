@@ -1,13 +1,10 @@
--- The slots of lanes, the numbers of their passes with a lane more, and whose acts a line more is of.
+-- The slots of lanes, the numbers of their passes with a lane more, and which lanes have a line with one more.
 use Rattle.std.proofs.Common.{◌≡◌, ℕ, zero, suc, ◌+◌, ◌<◌, ◌≤◌, ◌||◌, Bool, true, false, List, [], ◌∷◌, ◌++◌, length}
-use Rattle.std.proofs.Common.{map, refl, sym, ap, ◌∙◌, arith, if◌then◌else◌, inl, inr, length-append, ◌⊎◌}
-use Rattle.std.specs.Prelude.{filter}
-use Rattle.std.proofs.lemmas.List.{map-append}
-use Rattle.std.proofs.lemmas.List.Elements.{filter-append}
-use Rattle.vms_world.specs.Common.{Act, CpuId, Header, IsLaneOf, Item, Lane, Cpu, Control, acts_of, has_line, is_among}
-use Rattle.vms_world.specs.Common.{is_lane, lane_at, lanes_below}
+use Rattle.std.proofs.Common.{refl, sym, ap, ◌∙◌, arith, if◌then◌else◌, inl, inr, length-append, ◌⊎◌}
+use Rattle.vms_world.specs.Common.{CpuId, Header, IsLaneOf, Item, Lane, Cpu, Control, has_line, is_among, is_lane}
+use Rattle.vms_world.specs.Common.{lanes_below}
 use Rattle.vms_file_order.specs.Common.{pass_of}
-use Rattle.vms_file_order.proofs.Common.{HasPlace-among, is_among-append, is_lane-same, is_lane-self}
+use Rattle.vms_file_order.proofs.Common.{is_among-append, is_lane-same, is_lane-self}
 use Rattle.vms_phase_lines.specs.Common.{slot_of}
 
 -- lanes of a header that have one slot are one
@@ -23,15 +20,6 @@ pub slot_of-within : (header : Header) (l : Lane) → IsLaneOf header l
     → slot_of header.layout.cpus l < header.layout.cpus + 1
 slot_of-within header (Cpu c) known = omega (arith, known)
 slot_of-within header Control known = omega arith
-
--- lanes whose passes have one number are one
-pub pass_of-injective : (ls : List Lane) (l m : Lane) → is_among l ls ≡ true → is_among m ls ≡ true
-    → pass_of ls l ≡ pass_of ls m → l ≡ m
-pass_of-injective ls l m among other same =
-    let here = HasPlace-among ls l among in
-    let there = HasPlace-among ls m other in
-    let places : here.place ≡ there.place = omega (arith, here.number, there.number, same) in
-    sym here.there ∙ ap (λ (n : ℕ). lane_at ls n) places ∙ there.there
 
 -- with a lane more the others keep their numbers, and it has the next one
 pub pass_of-kept : (ls : List Lane) (l lane : Lane) → is_among lane ls ≡ true
@@ -145,18 +133,5 @@ has_line-more lane (first ∷ items) item =
   where
     by : (b : Bool) → (b || (has_line lane items || is_lane item.lane lane))
         ≡ ((b || has_line lane items) || is_lane item.lane lane)
-    by true = refl
-    by false = refl
-
-pub acts_of-more : (lane : Lane) (items : List Item) (item : Item)
-    → acts_of lane (items ++ item ∷ []) ≡ acts_of lane items ++ (if is_lane item.lane lane then item.act ∷ [] else [])
-acts_of-more lane items item =
-    ap (map (λ (i : Item). i.act)) (filter-append (λ (i : Item). is_lane i.lane lane) items (item ∷ []))
-    ∙ map-append (λ (i : Item). i.act) (filter (λ (i : Item). is_lane i.lane lane) items)
-    (filter (λ (i : Item). is_lane i.lane lane) (item ∷ []))
-    ∙ ap (λ (acts : List Act). acts_of lane items ++ acts) (by (is_lane item.lane lane))
-  where
-    by : (b : Bool) → map (λ (i : Item). i.act) (if b then item ∷ [] else [])
-        ≡ (if b then item.act ∷ [] else [])
     by true = refl
     by false = refl

@@ -1,11 +1,9 @@
-pub mod StandingPages
+pub mod KernelThresholds
 pub mod EventLines
-pub mod WrittenActs
 pub mod LanePlaces
 pub mod LinedLanes
 pub mod Openings
-pub mod PhaseStarts
 pub mod Closings
-pub mod MadeLines
-pub mod Moved
 pub mod PhaseEnds
+pub mod FoundPages
+pub mod MadeLines

@@ -1,310 +1,159 @@
 -- The next line of a phase is written.
-use Rattle.std.proofs.Common.{◌≡◌, ◌≢◌, ℕ, zero, suc, ◌<◌, ◌≤◌, nat_eq, Bool, true, false, List, [], ◌∷◌, ◌++◌}
-use Rattle.std.proofs.Common.{append-nil, arith, eq-eqb, get_or, if◌then◌else◌, inl, inr, length, length-append}
-use Rattle.std.proofs.Common.{length-set, ne_eqb, refl, sym, ap, subst, ◌⊎◌, ◌∙◌}
-use Rattle.std.proofs.Math.ListN.{set}
-use Rattle.std.proofs.lemmas.List.{take-append-le}
-use Rattle.std.proofs.lemmas.List.Elements.{All-append, All-cons, All-nil}
-use Rattle.std.specs.Prelude.{All, None, Option, Some}
-use Rattle.vms_world.specs.Common.{Act, HasWon, Header, IsLaneOf, Item, Lane, MakesActs, State, Step, ZoneSize}
-use Rattle.vms_world.specs.Common.{HasLanes, acts_of, after, facts_of, is_among, is_lane, lane_at, lanes_of, own}
-use Rattle.vms_world.specs.Common.{normal_threshold_of, owner_in, owner_of, pressure_threshold_of}
-use Rattle.vms_core.specs.Pages.{History, IsLegal}
-use Rattle.vms_core.specs.Steps.{role}
-use Rattle.vms_history.proofs.Common.{after-append, get_or-set, own-after, own-after_others}
-use Rattle.vms_file_order.specs.Common.{line, page_passes, pass_of}
-use Rattle.vms_file_order.proofs.Common.{HasLanes-followed, StandOnce-lanes, is_lane-same, is_lane-self}
-use Rattle.vms_file_order.proofs.Common.{owner_of-injective, pass_of-lane_at, pass_of-least}
-use Rattle.vms_own_acts.specs.Common.{IsHistoryFor, MakesInRow}
-use Rattle.vms_own_acts.proofs.OwnRows.{row-of_acts, steps-of_own}
-use Rattle.vms_own_acts.proofs.Rows.{row-front}
-use Rattle.vms_own_acts.proofs.StepLists.{after-injective}
-use Rattle.vms_cursors.specs.declared.cursors.Cursor.{Cursor}
+use Rattle.std.proofs.Common.{◌≡◌, ℕ, ℤ, true, ◌+◌, ◌*◌, ◌≤◌, List, [], ◌∷◌, ◌++◌, Option, Some, None, ap, append-nil}
+use Rattle.std.proofs.Common.{arith, length, length-append, refl, subst, sym, ◌∙◌}
+use Rattle.std.proofs.lemmas.List.Elements.{All-nil}
+use Rattle.vms_calls.specs.PageCalls.{IsPageCall}
+use Rattle.vms_calls.specs.declared.page_calls.PageAnswer.{PageAnswer}
+use Rattle.vms_calls.specs.declared.page_calls.PageAnswer.TheVariants as answer
+use Rattle.vms_calls.specs.declared.page_calls.PageCall.{PageCall}
+use Rattle.vms_calls.specs.declared.page_calls.PageCall.TheVariants as calls
+use Rattle.vms_calls.proofs.PageCalls.{page-spends}
+use Rattle.vms_world.specs.Common.{Act, CallSteps, CpuId, Facts, HasWon, Header, IsHeader, Item, Lane, Mode, Shape}
+use Rattle.vms_world.specs.Common.{State, Step, after, facts_of, is_among, lanes_of, normal_threshold_of, own, owner_of}
+use Rattle.vms_world.specs.Common.{page_call, pages, pressure_threshold_of, with_change}
+use Rattle.vms_core.specs.ChangedStates.{with_change_of}
+use Rattle.vms_core.specs.Own.{CarriesNothing}
+use Rattle.vms_core.specs.Pages.{History}
+use Rattle.vms_history.proofs.Common.{after-append, base_can_begin, own-after}
+use Rattle.vms_file_order.specs.Common.{GoesOnWithLine, page_passes, pass_of}
+use Rattle.vms_file_order.proofs.FollowedLines.{Follow-line, StandsOpen-line}
+use Rattle.vms_call_lines.specs.Calls.{WritesCall}
+use Rattle.vms_plain_control.specs.Common.{KnowsPeaks, SetAtMost}
+use Rattle.vms_plain_control.specs.PageCalls.{AnswersPageCall, GoesOnByCall}
 use Rattle.vms_walks.specs.Rules.{ByFormula}
-use Rattle.vms_walks.specs.Walks.{IsPageAct, IsWalkWithin, StandsBy}
-use Rattle.vms_walks.specs.declared.walks.Walk.{Walk}
-use Rattle.vms_phase_lines.specs.declared.pages.WrittenPages.{WrittenPages}
 use Rattle.vms_phase_lines.specs.declared.phases.PhaseWriter.{PhaseWriter}
-use Rattle.vms_phase_lines.specs.Common.{HasMade, HasWritten, IsWriting, MayGoOn, StandsIn, event_lines, lane_makes}
-use Rattle.vms_phase_lines.specs.Common.{slot_of}
-use Rattle.vms_phase_lines.proofs.LanePlaces.{acts_of-more, pass_of-injective, slot_of-injective, slot_of-within}
+use Rattle.vms_phase_lines.specs.Common.{IsWriting, event_lines, lane_makes}
+use Rattle.vms_phase_lines.proofs.EventLines.{lines-of_steps}
+use Rattle.vms_phase_lines.proofs.FoundPages.{MayMakePageCall-found, among, pass}
 
-abbrev by_pressure : ZoneSize → ℕ → ℕ → Type 0
-by_pressure = ByFormula pressure_threshold_of
+-- a change sets no threshold and no mark
+SetAtMost-change : (shape : Shape) (most c k : ℕ) (delta : ℤ) (how : Mode) (s : State) → SetAtMost shape most s
+    → SetAtMost shape most (with_change shape c k delta how s)
+unfolding with_change_of
+SetAtMost-change shape most c k delta how s few = record { thresholds = few.thresholds; marks = few.marks }
 
-abbrev by_normal : ZoneSize → ℕ → ℕ → Type 0
-by_normal = ByFormula normal_threshold_of
+SetAtMost-more : (shape : Shape) (most more : ℕ) (s : State) → most ≤ more → SetAtMost shape most s
+    → SetAtMost shape more s
+SetAtMost-more shape most more s less few = record {
+  thresholds = λ c g c_in g_in. omega (arith, few.thresholds c g c_in g_in, less);
+  marks = λ g zone. omega (arith, few.marks g zone, less);
+}
 
--- the steps of an act begin no other steps of it
-abbrev pub AreCutOneWay : Header → State → Lane → ℕ → Type 0
-AreCutOneWay header base lane p = (act : Act) (from : History) (first more : List Step)
-    → lane_makes header base lane p act from first → lane_makes header base lane p act from (first ++ more) → more ≡ []
+-- a call sets each threshold and each mark at most twice
+module _ (header : Header) (owner : Option CpuId) (s next : State) (most : ℕ) where
+  abbrev kept : SetAtMost header.layout most s → SetAtMost header.layout (2 + most) s
+  kept few = SetAtMost-more header.layout most (2 + most) s (omega arith) few
 
-module _ (header : Header) (base : State) where
-  -- where the passes of the lanes of some lines have begun and no others, no lane has a second pass
-  pub for-lane : (all : List Item) (lane : Lane) (h : History) → IsLegal (facts_of header base) h
-      → HasLanes role (lanes_of header.layout all) h → is_among lane (lanes_of header.layout all) ≡ true
-      → IsHistoryFor header base lane (pass_of (lanes_of header.layout all) lane) h
-  for-lane all lane h legal has among = record {
-    legal = legal;
-    alone = λ control q least most owns. by q control least (omega (arith, most, has.one_each)) owns;
-  }
-    where
-      lanes : List Lane
-      lanes = lanes_of header.layout all
+  pub SetAtMost-answered : (call : PageCall) (told : PageAnswer) → AnswersPageCall header call owner s next told
+      → SetAtMost header.layout most s → SetAtMost header.layout (2 + most) next
+  SetAtMost-answered (calls.Change k delta how) answer.Done is few =
+      subst (SetAtMost header.layout (2 + most)) (sym is.2)
+      (SetAtMost-change header.layout (2 + most) is.0.number k.number delta how s (kept few))
+  SetAtMost-answered (calls.Fold c) answer.Done is few =
+      subst (SetAtMost header.layout (2 + most)) (sym is.rest)
+      (record { thresholds = (kept few).thresholds; marks = (kept few).marks })
+  SetAtMost-answered (calls.Test g mark low) (answer.Tested verdict) is few =
+      subst (SetAtMost header.layout (2 + most)) (sym is.0) (kept few)
+  SetAtMost-answered (calls.Value k) (answer.Value pages) is few =
+      subst (SetAtMost header.layout (2 + most)) (sym is.0) (kept few)
+  SetAtMost-answered (calls.Snapshot k) (answer.Snapshot pages) is few =
+      subst (SetAtMost header.layout (2 + most)) (sym is.0) (kept few)
+  SetAtMost-answered (calls.System i) (answer.System pages) is few =
+      subst (SetAtMost header.layout (2 + most)) (sym is.0) (kept few)
+  SetAtMost-answered (calls.SetPressure n) answer.Done is few =
+      SetAtMost-more header.layout (1 + most) (2 + most) next (omega arith) (is.1 most few)
+  SetAtMost-answered (calls.SetNormal n) answer.Done is few =
+      SetAtMost-more header.layout (1 + most) (2 + most) next (omega arith) (is.1 most few)
+  SetAtMost-answered (calls.Bury c) answer.Done is few =
+      SetAtMost-more header.layout (1 + most) (2 + most) next (omega arith) (is.1 most few)
+  SetAtMost-answered (calls.Turn n order low) (answer.Balanced balance) is few = is.2 most few
+  SetAtMost-answered _ _ is few = absurd is
 
-      by : (q : ℕ) → owner_of lane ≡ None → 1 ≤ q → q ≤ length lanes → owner_in role h q ≡ None
-          → q ≡ pass_of lanes lane
-      by zero control least most owns = absurd (omega (arith, least))
-      by (suc n) control least most owns =
-          let place = pass_of-lane_at lanes n (StandOnce-lanes header.layout all) (omega (arith, most)) in
-          let same : lane ≡ lane_at lanes n =
-          owner_of-injective lane (lane_at lanes n) (control ∙ sym owns ∙ has.owners n (omega (arith, most))) in
-          sym place.number ∙ ap (pass_of lanes) (sym same)
+module _ (header : Header) (base : State) (all items left : List Item) (item : Item) (h : History)
+    (writer : PhaseWriter) (is : IsWriting header base all items h writer) (parts : all ≡ items ++ item ∷ left) where
+  abbrev facts : Facts
+  facts = facts_of header base
 
-  module _ (lane : Lane) (p : ℕ) where
-    abbrev Row : List Act → History → History → Type 0
-    Row acts from to = MakesInRow (lane_makes header base lane p) p acts from to
+  abbrev lanes : List Lane
+  lanes = lanes_of header.layout all
 
-    -- a walk stands where it did when the lane has an act more
-    stands-more : (acts : List Act) (act : Act) (mine : History) (count : ℕ) (under_way : Option Cursor)
-        → count ≤ length acts → StandsBy header base by_pressure by_normal lane p acts count under_way mine
-        → StandsBy header base by_pressure by_normal lane p (acts ++ act ∷ []) count under_way mine
-    stands-more acts act mine count None within row =
-        subst (λ (xs : List Act). Row xs [] mine) (sym (take-append-le count acts (act ∷ []) within)) row
-    stands-more acts act mine count (Some cursor) within (made, next, front, is) =
-        (made, next, take-append-le count acts (act ∷ []) within ∙ front, is)
+  abbrev p : ℕ
+  p = pass_of lanes item.lane
 
-    pub asked-more : (acts : List Act) (act : Act) (h : History) (walk : Walk) → HasMade header base lane p acts h walk
-        → StandsIn header base lane p (acts ++ act ∷ []) walk h
-        × IsWalkWithin header.layout lane (acts ++ act ∷ []) walk
-    asked-more acts act h walk made = (
-      stands-more acts act (own h p) walk.begun walk.under_way made.within.begun made.stands,
-      record {
-        begun = omega (arith, made.within.begun, length-append acts (act ∷ []));
-        under_way = made.within.under_way;
-      },
-    )
+  abbrev makes : Lane → ℕ → Act → History → List Step → Type 0
+  makes = lane_makes header base
 
-    -- the steps that a pass made since an act began are the act's
-    pub act-makes : AreCutOneWay header base lane p → (acts : List Act) (act : Act) (h : History) (steps : List Step)
-        → IsHistoryFor header base lane p h → IsHistoryFor header base lane p (after p steps h)
-        → Row acts [] (own h p) → MakesActs (lane_makes header base lane p) p (acts ++ act ∷ []) (after p steps h)
-        → lane_makes header base lane p act h steps
-    act-makes one acts act h steps is is' row made =
-        let mine : own (after p steps h) p ≡ after p steps (own h p) = own-after p steps h in
-        let whole = row-of_acts header base by_pressure by_normal lane p (acts ++ act ∷ []) (after p steps h) is' made in
-        let last = row-front (lane_makes header base lane p) p one acts (act ∷ []) [] (own h p)
-        (own (after p steps h) p) steps row mine whole in
-        let same : last.0 ≡ steps = after-injective p last.0 steps (own h p) (last.2 ∙ mine) in
-        steps-of_own header base by_pressure by_normal lane p act h steps is
-        (subst (λ (ks : List Step). lane_makes header base lane p act (own h p) ks) same last.1)
+  there : is_among item.lane lanes ≡ true
+  there = among header base all items left item h writer is parts
 
-    pub made-here : (acts : List Act) (h : History) (walk : Walk) → IsHistoryFor header base lane p h
-        → StandsIn header base lane p acts walk h → IsWalkWithin header.layout lane acts walk
-        → MakesActs (lane_makes header base lane p) p acts h → HasMade header base lane p acts h walk
-    made-here acts h walk is stands within made = record {
-      stands = stands;
-      within = within;
-      made = row-of_acts header base by_pressure by_normal lane p acts h is made;
-    }
+  -- what is written after the line
+  abbrev pub Written : State → List ℕ → List ℕ → List ℕ → Type 0
+  Written next known out out' = (more : History)
+      × IsWriting header base all (items ++ item ∷ []) (more ++ h)
+      (record { pages = next; peaks = known; lanes = writer.lanes }) × (out' ≡ out ++ event_lines more)
 
-    -- other passes leave it
-    pub made-others : (acts : List Act) (h : History) (walk : Walk) (q : ℕ) (steps : List Step) → p ≢ q
-        → HasMade header base lane p acts h walk → HasMade header base lane p acts (after q steps h) walk
-    made-others acts h walk q steps other made =
-        let same : own h p ≡ own (after q steps h) p = sym (own-after_others q steps h p other) in
-        record {
-          stands = subst (λ (mine : History). StandsBy header base by_pressure by_normal lane p acts walk.begun
-              walk.under_way mine) same made.stands;
-          within = made.within;
-          made = subst (λ (mine : History). Row acts [] mine) same made.made;
-        }
+  one_more : length (items ++ item ∷ []) ≡ length items + 1
+  one_more = length-append items (item ∷ [])
 
-  -- the next line
-  module _ (all items : List Item) (h : History) (writer : PhaseWriter)
-      (is : IsWriting header base all items h writer) (item : Item) (known : IsLaneOf header item.lane)
-      (among : is_among item.lane (lanes_of header.layout all) ≡ true) where
-    abbrev lanes : List Lane
-    lanes = lanes_of header.layout all
+  -- a line goes on to these page counters and peaks
+  goes-on : (next : State) (known : List ℕ)
+      → (goes : GoesOnWithLine pages makes HasWon facts lanes item h next)
+      → KnowsPeaks facts (after p goes.steps h) known → SetAtMost header.layout (2 + 2 * length items) next
+      → (out out' : List ℕ) → out' ≡ out ++ event_lines (after p goes.steps []) → Written next known out out'
+  goes-on next known goes knows sets out out' text = (
+    after p goes.steps [],
+    subst (λ (g : History). IsWriting header base all (items ++ item ∷ []) g
+        (record { pages = next; peaks = known; lanes = writer.lanes })) (after-append p goes.steps [] h) (record {
+          fit = is.fit;
+          begins = is.begins;
+          follow = Follow-line pages page_passes makes HasWon facts lanes item h next there goes items is.follow;
+          stands = StandsOpen-line pages page_passes makes HasWon facts lanes item h next there goes writer.pages
+              is.stands;
+          peaks = knows;
+          sets = SetAtMost-more header.layout (2 + 2 * length items) (2 * length (items ++ item ∷ [])) next
+              (omega (arith, one_more)) sets;
+        }),
+    text,
+  )
 
-    abbrev lane : Lane
-    lane = item.lane
+  -- an act that makes no call makes no step
+  pub line-uncalled : page_call item.lane item.act ≡ None → (out : List ℕ) → Written writer.pages writer.peaks out out
+  line-uncalled none out = goes-on writer.pages writer.peaks (record {
+    steps = [];
+    making = subst (λ (what : Option PageCall). CallSteps (λ call ks told. IsPageCall header base
+        (ByFormula pressure_threshold_of) (ByFormula normal_threshold_of) call (owner_of item.lane) p h ks told) what
+        []) (sym none) refl;
+    alone = All-nil HasWon;
+    goes_on = record { legal = is.stands.legal; state = is.stands.state };
+    may_end = is.stands.may_end p (pass header base all items left item h writer is parts).other_than_main;
+  }) is.peaks
+      (SetAtMost-more header.layout (2 * length items) (2 + 2 * length items) writer.pages (omega arith) is.sets) out
+      out (sym (append-nil out))
 
-    abbrev p : ℕ
-    p = pass_of lanes lane
-
-    abbrev k : ℕ
-    k = slot_of header.layout.cpus lane
-
-    abbrev acts : List Act
-    acts = acts_of lane items ++ item.act ∷ []
-
-    pub is_for-now : IsHistoryFor header base lane p h
-    is_for-now = for-lane all lane h is.are.shows.legal
-        (HasLanes-followed page_passes (lane_makes header base) HasWon lanes (StandOnce-lanes header.layout all) items h
-        is.follow) among
-
-    pub pass-least : 1 ≤ p
-    pass-least = pass_of-least lanes lane among
-
-    pub lists-within : k < length writer.acts
-    lists-within = omega (arith, slot_of-within header lane known, is.one_list_each)
-
-    pub walks-within : k < length writer.walks
-    walks-within = omega (arith, slot_of-within header lane known, is.one_walk_each)
-
-    pub passes-within : k < length writer.lanes.passes
-    passes-within = omega (arith, slot_of-within header lane known, is.begins.one_each)
-
-    pub made-now : (none : Walk) → HasMade header base lane p (acts_of lane items) h (get_or writer.walks k none)
-    made-now none = is.walks lane none known among
-
-    pub may-go_on : (walk : Walk) → get_or writer.walks k walk ≡ walk → MayGoOn header base lane p acts h writer.pages walk
-    may-go_on walk same =
-        let made = subst (λ (w : Walk). HasMade header base lane p (acts_of lane items) h w) same (made-now walk) in
-        record {
-          are = is.are;
-          is_for = is_for-now;
-          stands = (asked-more lane p (acts_of lane items) item.act h walk made).0;
-        }
-
-    pub walk-within : (walk : Walk) → get_or writer.walks k walk ≡ walk → IsWalkWithin header.layout lane acts walk
-    walk-within walk same =
-        let made = subst (λ (w : Walk). HasMade header base lane p (acts_of lane items) h w) same (made-now walk) in
-        (asked-more lane p (acts_of lane items) item.act h walk made).1
-
-    pub acts-page : IsPageAct header.layout lane item.act → All (IsPageAct header.layout lane) acts
-    acts-page page = All-append (IsPageAct header.layout lane) (acts_of lane items) (item.act ∷ [])
-        (is.page_acts lane known)
-        (All-cons (IsPageAct header.layout lane) item.act [] page (All-nil (IsPageAct header.layout lane)))
-
-    -- the acts of each lane with the line
-    acts-here : acts_of lane (items ++ item ∷ []) ≡ acts
-    acts-here = acts_of-more lane items item
-        ∙ ap (λ (b : Bool). acts_of lane items ++ (if b then item.act ∷ [] else [])) (is_lane-self lane)
-
-    not-lane : (other : Lane) (b : Bool) → lane ≢ other → is_lane lane other ≡ b → b ≡ false
-    not-lane other true differ same = absurd (differ (is_lane-same lane other same))
-    not-lane other false differ same = refl
-
-    acts-there : (other : Lane) → lane ≢ other → acts_of other (items ++ item ∷ []) ≡ acts_of other items
-    acts-there other differ = acts_of-more other items item
-        ∙ ap (λ (b : Bool). acts_of other items ++ (if b then item.act ∷ [] else []))
-        (not-lane other (is_lane lane other) differ refl)
-        ∙ append-nil (acts_of other items)
-
-    module _ (one : AreCutOneWay header base lane p) (page : IsPageAct header.layout lane item.act)
-        (pages : WrittenPages) (walk : Walk) (out out' : List ℕ)
-        (written : HasWritten header base lane p acts h pages walk out out')
-        (within : IsWalkWithin header.layout lane acts walk)
-        (made : MakesActs (lane_makes header base lane p) p acts (after p written.steps h))
-        (lists : List (List Act)) (lists-are : lists ≡ set writer.acts k (get_or writer.acts k [] ++ item.act ∷ []))
-        (walks : List Walk) (walks-are : walks ≡ set writer.walks k walk) where
-      abbrev next : History
-      next = after p written.steps h
-
-      differs : (other : Lane) → IsLaneOf header other → lane ≢ other → k ≢ slot_of header.layout.cpus other
-      differs other other_in differ same = differ (slot_of-injective header lane other known other_in same)
-
-      list-at : (other : Lane) → IsLaneOf header other → (lane ≡ other) ⊎ (lane ≢ other)
-          → (if nat_eq k (slot_of header.layout.cpus other) then get_or writer.acts k [] ++ item.act ∷ []
-          else get_or writer.acts (slot_of header.layout.cpus other) []) ≡ acts_of other (items ++ item ∷ [])
-      list-at other other_in (inl same) =
-          ap (λ (b : Bool). if b then get_or writer.acts k [] ++ item.act ∷ []
-          else get_or writer.acts (slot_of header.layout.cpus other) [])
-          (eq-eqb k (slot_of header.layout.cpus other) (ap (slot_of header.layout.cpus) same))
-          ∙ ap (λ (xs : List Act). xs ++ item.act ∷ []) (is.acts lane known)
-          ∙ sym acts-here ∙ ap (λ (l : Lane). acts_of l (items ++ item ∷ [])) same
-      list-at other other_in (inr differ) =
-          ap (λ (b : Bool). if b then get_or writer.acts k [] ++ item.act ∷ []
-          else get_or writer.acts (slot_of header.layout.cpus other) [])
-          (ne_eqb k (slot_of header.layout.cpus other) (differs other other_in differ))
-          ∙ is.acts other other_in ∙ sym (acts-there other differ)
-
-      page-at : (other : Lane) → IsLaneOf header other → (lane ≡ other) ⊎ (lane ≢ other)
-          → All (IsPageAct header.layout other) (acts_of other (items ++ item ∷ []))
-      page-at other other_in (inl same) =
-          subst (λ (l : Lane). All (IsPageAct header.layout l) (acts_of l (items ++ item ∷ []))) same
-          (subst (λ (xs : List Act). All (IsPageAct header.layout lane) xs) (sym acts-here) (acts-page page))
-      page-at other other_in (inr differ) =
-          subst (λ (xs : List Act). All (IsPageAct header.layout other) xs) (sym (acts-there other differ))
-          (is.page_acts other other_in)
-
-      made-lane : HasMade header base lane p (acts_of lane (items ++ item ∷ [])) next walk
-      made-lane = subst (λ (xs : List Act). HasMade header base lane p xs next walk) (sym acts-here)
-          (made-here lane p acts next walk written.goes_on.is_for written.goes_on.stands within made)
-
-      made-other : (other : Lane) (none : Walk) → IsLaneOf header other → is_among other lanes ≡ true → lane ≢ other
-          → HasMade header base other (pass_of lanes other) (acts_of other (items ++ item ∷ [])) next
-          (get_or writer.walks (slot_of header.layout.cpus other) none)
-      made-other other none other_in other_among differ =
-          subst (λ (xs : List Act). HasMade header base other (pass_of lanes other) xs next
-          (get_or writer.walks (slot_of header.layout.cpus other) none)) (sym (acts-there other differ))
-          (made-others other (pass_of lanes other) (acts_of other items) h
-          (get_or writer.walks (slot_of header.layout.cpus other) none) p written.steps
-          (λ same. differ (sym (pass_of-injective lanes other lane other_among among same)))
-          (is.walks other none other_in other_among))
-
-      walk-at : (other : Lane) (none : Walk) → IsLaneOf header other → is_among other lanes ≡ true
-          → (lane ≡ other) ⊎ (lane ≢ other)
-          → HasMade header base other (pass_of lanes other) (acts_of other (items ++ item ∷ [])) next
-          (if nat_eq k (slot_of header.layout.cpus other) then walk
-          else get_or writer.walks (slot_of header.layout.cpus other) none)
-      walk-at other none other_in other_among (inl same) =
-          subst (λ (b : Bool). HasMade header base other (pass_of lanes other) (acts_of other (items ++ item ∷ [])) next
-          (if b then walk else get_or writer.walks (slot_of header.layout.cpus other) none))
-          (sym (eq-eqb k (slot_of header.layout.cpus other) (ap (slot_of header.layout.cpus) same)))
-          (subst (λ (l : Lane). HasMade header base l (pass_of lanes l) (acts_of l (items ++ item ∷ [])) next walk) same
-          made-lane)
-      walk-at other none other_in other_among (inr differ) =
-          subst (λ (b : Bool). HasMade header base other (pass_of lanes other) (acts_of other (items ++ item ∷ [])) next
-          (if b then walk else get_or writer.walks (slot_of header.layout.cpus other) none))
-          (sym (ne_eqb k (slot_of header.layout.cpus other) (differs other other_in differ)))
-          (made-other other none other_in other_among differ)
-
-      one-lane : (other : Lane) → (lane ≡ other) ⊎ (lane ≢ other)
-      one-lane other = by (is_lane lane other) refl
-        where
-          by : (b : Bool) → is_lane lane other ≡ b → (lane ≡ other) ⊎ (lane ≢ other)
-          by true same = inl (is_lane-same lane other same)
-          by false same = inr (λ one. (let both : true ≡ false = sym (is_lane-self lane)
-              ∙ ap (λ (l : Lane). is_lane lane l) one ∙ same in absurd cc))
-
-      writing-next : IsWriting header base all (items ++ item ∷ []) next
-          (record { pages = pages; lanes = writer.lanes; acts = lists; walks = walks })
-      writing-next = record {
-        are = written.goes_on.are;
-        begins = is.begins;
-        follow = line items item h written.steps is.follow among
-            (act-makes lane p one (acts_of lane items) item.act h written.steps is_for-now written.goes_on.is_for
-            ((made-now walk).made) made)
-            written.won;
-        one_list_each = ap (λ (xs : List (List Act)). length xs) lists-are
-            ∙ length-set writer.acts k (get_or writer.acts k [] ++ item.act ∷ []) ∙ is.one_list_each;
-        acts = λ other other_in.
-            ap (λ (xs : List (List Act)). get_or xs (slot_of header.layout.cpus other) []) lists-are
-            ∙ get_or-set writer.acts k (slot_of header.layout.cpus other) (get_or writer.acts k [] ++ item.act ∷ []) []
-            lists-within ∙ list-at other other_in (one-lane other);
-        page_acts = λ other other_in. page-at other other_in (one-lane other);
-        one_walk_each = ap (λ (xs : List Walk). length xs) walks-are ∙ length-set writer.walks k walk
-            ∙ is.one_walk_each;
-        walks = λ other none other_in other_among.
-            subst (λ (w : Walk). HasMade header base other (pass_of lanes other) (acts_of other (items ++ item ∷ [])) next
-            w) (sym (ap (λ (ws : List Walk). get_or ws (slot_of header.layout.cpus other) none) walks-are
-            ∙ get_or-set writer.walks k (slot_of header.layout.cpus other) walk none walks-within))
-            (walk-at other none other_in other_among (one-lane other));
-      }
-
-      -- with its lines
-      pub line-written : (more : History)
-          × IsWriting header base all (items ++ item ∷ []) (more ++ h)
-          (record { pages = pages; lanes = writer.lanes; acts = lists; walks = walks })
-          × (out' ≡ out ++ event_lines more)
-      line-written = (
-        after p written.steps [],
-        subst (λ (g : History). IsWriting header base all (items ++ item ∷ []) g
-            (record { pages = pages; lanes = writer.lanes; acts = lists; walks = walks }))
-            (after-append p written.steps [] h) writing-next,
-        written.lines,
-      )
+  pub line-called : IsHeader header → (call : PageCall) → page_call item.lane item.act ≡ Some call → (next : State)
+      (known : List ℕ) (out out' : List ℕ)
+      → WritesCall header (ByFormula pressure_threshold_of) (ByFormula normal_threshold_of) call (owner_of item.lane) p
+      writer.pages writer.peaks next known out out'
+      → Written next known out out'
+  line-called valid call on next known out out' writes =
+      let may = MayMakePageCall-found header base all items left item h writer is parts valid call on in
+      let made = writes.makes base h may is.stands.state is.peaks in
+      let goes : GoesOnByCall header base (ByFormula pressure_threshold_of) (ByFormula normal_threshold_of) call
+      (owner_of item.lane) p h writes.told next known = made.0 in
+      let left_by = (page-spends (ByFormula pressure_threshold_of) (ByFormula normal_threshold_of) header base call
+      (owner_of item.lane) p h goes.steps writes.told (base_can_begin pages facts h is.stands.legal).layout goes.is
+      (own h p)).carries in
+      goes-on next known (record {
+        steps = goes.steps;
+        making = subst (λ (what : Option PageCall). CallSteps (λ it ks told. IsPageCall header base
+            (ByFormula pressure_threshold_of) (ByFormula normal_threshold_of) it (owner_of item.lane) p h ks told) what
+            goes.steps) (sym on) (writes.told, goes.is);
+        alone = goes.alone;
+        goes_on = goes.goes_on;
+        may_end = subst (CarriesNothing header.layout) (sym (own-after p goes.steps h)) (record {
+          counters = λ k. left_by.counters k ∙ may.nothing.counters k;
+          items = λ i. left_by.items i ∙ may.nothing.items i;
+        });
+      }) goes.knows
+      (SetAtMost-answered header (owner_of item.lane) writer.pages next (2 * length items) call writes.told
+      writes.answers is.sets) out out' (made.1 ∙ ap (λ (text : List ℕ). out ++ text) (lines-of_steps p goes.steps))

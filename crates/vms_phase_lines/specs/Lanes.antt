@@ -1,11 +1,9 @@
 -- The passes of the lanes that have lines.
 use Rattle.std.specs.Prelude.{◌≡◌, ℕ, ◌+◌, Bool, true, false, List, ◌++◌, length, slice_index_or}
-use Rattle.vms_world.specs.Common.{Facts, Header, IsLaneOf, Item, Lane, Cpu, Control, has_line, is_among}
+use Rattle.vms_world.specs.Common.{Header, IsLaneOf, Item, Lane, Cpu, Control, has_line, is_among}
 use Rattle.vms_file_order.specs.Common.{opening_of, page_passes, pass_of}
 use Rattle.vms_phase_lines.specs.declared.lanes.LanePasses.{LanePasses}
-use Rattle.vms_phase_lines.specs.declared.pages.WrittenPages.{WrittenPages}
 use Rattle.vms_phase_lines.specs.Lines.{event_lines}
-use Rattle.vms_phase_lines.specs.Pages.{AreAfter}
 
 -- the slot of a lane: the number of its CPU, or the number of CPUs for the control lane
 abbrev pub slot_of : ℕ → Lane → ℕ
@@ -26,8 +24,6 @@ pub record HaveBegun (header : Header) (lanes : List Lane) (begun : LanePasses) 
       → slice_index_or begun.passes (slot_of header.layout.cpus lane) 0 ≡ pass_of lanes lane
 
 -- nothing else has happened, and the lines of that are written
-pub record OpensLanes (header : Header) (facts : Facts) (lanes : List Lane) (begun : LanePasses) (pages : WrittenPages)
-    (out out' : List ℕ) : Type 0 where
+pub record OpensLanes (header : Header) (lanes : List Lane) (begun : LanePasses) (out out' : List ℕ) : Type 0 where
   pub begins : HaveBegun header lanes begun
-  pub are : AreAfter facts (opening_of page_passes lanes) pages
   pub lines : out' ≡ out ++ event_lines (opening_of page_passes lanes)

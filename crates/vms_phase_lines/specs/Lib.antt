@@ -1,6 +1,6 @@
 pub mod Lines
-pub mod Pages
 pub mod Acts
+pub mod Fitting
 pub mod Lanes
 pub mod Phases
 pub mod Common

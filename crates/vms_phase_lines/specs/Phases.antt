@@ -1,16 +1,13 @@
 -- A phase of page events in the order of its lines, under the kernel's rules of thresholds.
-use Rattle.std.specs.Prelude.{◌≡◌, ℕ, ◌+◌, true, List, [], All, length, replicate, slice_index_or}
-use Rattle.vms_world.specs.Common.{Act, HasWon, Header, IsLaneOf, Item, Lane, State, acts_of, facts_of, is_among}
-use Rattle.vms_world.specs.Common.{lanes_of, own}
+use Rattle.std.specs.Prelude.{◌*◌, List, length}
+use Rattle.vms_world.specs.Common.{HasWon, Header, Item, State, facts_of, lanes_of, pages}
 use Rattle.vms_core.specs.Pages.{History, IsComplete}
-use Rattle.vms_file_order.specs.Common.{Follow, IsFileOrder, page_passes, pass_of}
-use Rattle.vms_own_acts.specs.Common.{MakesInRow}
-use Rattle.vms_walks.specs.Walks.{IsPageAct, IsWalkWithin}
-use Rattle.vms_walks.specs.declared.walks.Walk.{Walk}
+use Rattle.vms_file_order.specs.Common.{Follow, IsFileOrder, StandsOpen, page_passes}
+use Rattle.vms_plain_control.specs.Common.{KnowsPeaks, SetAtMost}
 use Rattle.vms_phase_lines.specs.declared.phases.PhaseWriter.{PhaseWriter}
-use Rattle.vms_phase_lines.specs.Acts.{StandsIn, lane_makes}
-use Rattle.vms_phase_lines.specs.Lanes.{HaveBegun, slot_of}
-use Rattle.vms_phase_lines.specs.Pages.{AreAfter}
+use Rattle.vms_phase_lines.specs.Acts.{lane_makes}
+use Rattle.vms_phase_lines.specs.Fitting.{FitPages}
+use Rattle.vms_phase_lines.specs.Lanes.{HaveBegun}
 
 -- these page events are the phase of these lines, in their order, from this state: they are legal, and every pass has
 -- ended
@@ -18,32 +15,13 @@ pub record IsPhaseInOrder (header : Header) (base : State) (items : List Item) (
   pub complete : IsComplete (facts_of header base) h
   pub order : IsFileOrder page_passes (lane_makes header base) HasWon header.layout items h
 
--- the pass of a lane has made these acts in a history, and its walk stands there
-pub record HasMade (header : Header) (base : State) (lane : Lane) (p : ℕ) (acts : List Act) (h : History) (walk : Walk)
-    : Type 0 where
-  pub stands : StandsIn header base lane p acts walk h
-  pub within : IsWalkWithin header.layout lane acts walk
-  pub made : MakesInRow (lane_makes header base lane p) p acts [] (own h p)
-
--- the walks of all lanes before their first acts, by slot
-pub record AreFirstWalks (header : Header) (walks : List Walk) : Type 0 where
-  pub first : Walk
-  pub same : walks ≡ replicate (header.layout.cpus + 1) first
-  pub stands : (base : State) (lane : Lane) (p : ℕ) (h : History) → own h p ≡ []
-      → StandsIn header base lane p [] first h
-  pub within : (lane : Lane) → IsWalkWithin header.layout lane [] first
-
--- the first lines of a phase of all these lines have come to this history
+-- the first lines of a phase of all these lines have come to this history, after which the page counters and the peaks
+-- are those of the writer. Each line has set each threshold and each mark at most twice
 pub record IsWriting (header : Header) (base : State) (all items : List Item) (h : History) (writer : PhaseWriter)
     : Type 0 where
-  pub are : AreAfter (facts_of header base) h writer.pages
+  pub fit : FitPages header base all
   pub begins : HaveBegun header (lanes_of header.layout all) writer.lanes
   pub follow : Follow page_passes (lane_makes header base) HasWon (lanes_of header.layout all) items h
-  pub one_list_each : length writer.acts ≡ header.layout.cpus + 1
-  pub acts : (lane : Lane) → IsLaneOf header lane
-      → slice_index_or writer.acts (slot_of header.layout.cpus lane) [] ≡ acts_of lane items
-  pub page_acts : (lane : Lane) → IsLaneOf header lane → All (IsPageAct header.layout lane) (acts_of lane items)
-  pub one_walk_each : length writer.walks ≡ header.layout.cpus + 1
-  pub walks : (lane : Lane) (none : Walk) → IsLaneOf header lane → is_among lane (lanes_of header.layout all) ≡ true
-      → HasMade header base lane (pass_of (lanes_of header.layout all) lane) (acts_of lane items) h
-      (slice_index_or writer.walks (slot_of header.layout.cpus lane) none)
+  pub stands : StandsOpen pages page_passes (facts_of header base) (lanes_of header.layout all) h writer.pages
+  pub peaks : KnowsPeaks (facts_of header base) h writer.peaks
+  pub sets : SetAtMost header.layout (2 * length items) writer.pages

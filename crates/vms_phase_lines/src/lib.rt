@@ -1,12 +1,9 @@
 //! Writes the lines of a phase's page events, in the order of the phase's own lines.
 #![tactic(auto)]
 
-mod act_lists;
-mod acts;
+mod calls;
+mod formulas;
 mod lanes;
-mod pages;
 mod phases;
-mod standing_peaks;
-mod told_steps;
 
 pub use phases::PhaseWriter;

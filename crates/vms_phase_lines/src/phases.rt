@@ -1,34 +1,28 @@
-ghost use Rattle.std.specs.Prelude.{◌≡◌, ◌+◌, true, ◌∷◌, [], ◌++◌, All, IfOk, List, OnOk, replicate};
+ghost use Rattle.std.specs.Prelude.{◌≡◌, ◌∷◌, [], ◌++◌, IfOk, List, OnOk};
 ghost use Rattle.vms_core.specs.Pages.{History, state_after};
-ghost use Rattle.vms_file_order.specs.Common.{opening_of, page_passes};
-ghost use Rattle.vms_walks.specs.Walks.{IsPageAct};
-ghost use Rattle.vms_world.specs.Common.{Header as HeaderOf, IsHeader, IsLaneOf, Item as ItemOf, State as StateOf};
-ghost use Rattle.vms_world.specs.Common.{facts_of, is_among, lanes_of, settled};
+ghost use Rattle.vms_world.specs.Common.{Header as HeaderOf, IsHeader, Item as ItemOf, State as StateOf, facts_of};
+ghost use Rattle.vms_world.specs.Common.{settled};
 ghost use Rattle.vms_written_lines.specs.Spelling.{phase_line};
+ghost use Rattle.vms_phase_lines.specs.Fitting.{FitPages};
 ghost use Rattle.vms_phase_lines.specs.Lines.{event_lines};
-ghost use Rattle.vms_phase_lines.specs.Lanes.{OpensLanes};
-ghost use Rattle.vms_phase_lines.specs.Phases.{AreFirstWalks, IsPhaseInOrder, IsWriting};
+ghost use Rattle.vms_phase_lines.specs.Phases.{IsPhaseInOrder, IsWriting};
 
-use crate::act_lists::ActLists;
-use crate::acts::write_acts;
-use crate::lanes::{LanePasses, slot_of};
-use crate::pages::WrittenPages;
+use crate::calls::write_by_formulas;
+use crate::lanes::{LanePasses, owner_of};
 use std::alloc::Global;
-use vms_base::{Header, Memory, Row};
-use vms_core::State;
-use vms_own_acts::acts_are_cut_one_way;
+use vms_base::{Header, Memory};
+use vms_core::{Plain, State};
+use vms_plain_control::Peaks;
 use vms_text::Item;
-use vms_walks::{ExactRules, Walk};
+use vms_world::page_call;
 use vms_written_lines::push_phase_line;
 
 /// A phase whose page events are written, line by line of the phase.
 #[derive(Debug, Drop)]
 pub struct PhaseWriter {
-    pub(crate) pages: WrittenPages,
+    pub(crate) pages: Plain,
+    pub(crate) peaks: Peaks,
     pub(crate) lanes: LanePasses,
-    /// By slot the acts of the lane's lines so far, and where its pass stands in them.
-    pub(crate) acts: ActLists,
-    pub(crate) walks: Row<Walk>,
 }
 
 impl PhaseWriter {
@@ -42,18 +36,17 @@ impl PhaseWriter {
         items: &[Item],
     ) -> Result<PhaseWriter, Memory>
         requires header { IsHeader header.now }
-        requires items { All (λ item. IsLaneOf header.now item.lane) items.now }
+        requires fit { FitPages header.now base items.now }
         ensures { IfOk result (λ writer. (h : History) × IsWriting header.now base items.now [] h writer
             × (out.new.items ≡ out.old.items ++ (phase_line ++ event_lines h))) }
     {
         push_phase_line(out)?;
-        let (pages, lanes) = open_lanes(out, alloc, header, base, items)?;
-        let (acts, walks) = no_acts(alloc, header)?;
+        let lanes = LanePasses::begin(out, alloc, header, items)?;
+        let peaks = Peaks::make(alloc, &header.layout, &base)?;
         Ok(PhaseWriter {
-            pages,
+            pages: Plain::make(base),
+            peaks,
             lanes,
-            acts,
-            walks,
         })
     }
 
@@ -65,79 +58,42 @@ impl PhaseWriter {
         item: &Item,
     ) -> Result<(), Memory>
         requires header { IsHeader header.now }
-        requires lane { IsLaneOf header.now item.now.lane }
-        requires act { IsPageAct header.now.layout item.now.lane item.now.act }
-        requires writing { (base : StateOf) × (all : List ItemOf) × (items : List ItemOf) × (h : History)
-            × IsWriting header.now base all items h self.old
-            × (is_among item.now.lane (lanes_of header.now.layout all) ≡ true) }
-        ensures { OnOk result ((base : StateOf) (all items : List ItemOf) (h : History) →
-            IsWriting header.now base all items h self.old →
-            is_among item.now.lane (lanes_of header.now.layout all) ≡ true → (more : History)
+        requires writing { (base : StateOf) × (all : List ItemOf) × (items : List ItemOf) × (left : List ItemOf)
+            × (h : History) × IsWriting header.now base all items h self.old × (all ≡ items ++ item.now ∷ left) }
+        ensures { OnOk result ((base : StateOf) (all items left : List ItemOf) (h : History) →
+            IsWriting header.now base all items h self.old → all ≡ items ++ item.now ∷ left → (more : History)
             × IsWriting header.now base all (items ++ item.now ∷ []) (more ++ h) self.new
             × (out.new.items ≡ out.old.items ++ event_lines more)) }
     {
-        acts_are_cut_one_way::<ExactRules>();
         let lane = item.lane.lane();
-        let slot = slot_of(header.layout.cpus(), lane);
-        self.acts.push(slot, item.act)?;
-        let walk = write_acts(
+        let Some(call) = page_call(lane, item.act) else {
+            return Ok(());
+        };
+        let pass = self.lanes.pass(header, lane);
+        let owner = owner_of(lane);
+        write_by_formulas(
             out,
-            header,
+            pass,
             &mut self.pages,
-            lane,
-            self.lanes.passes.get(slot),
-            self.acts.at(slot),
-            self.walks.get(slot),
-        )?;
-        self.walks.set(slot, walk);
-        Ok(())
+            &mut self.peaks,
+            header,
+            owner,
+            call,
+        )
     }
 
     /// Appends the lines of the events that end the passes, once all lines are made. Returns the page counters with
     /// which the next phase begins.
-    pub fn end(&mut self, out: &mut Vec<u8>, alloc: Global) -> Result<State, Memory>
+    pub fn end(self, out: &mut Vec<u8>) -> Result<State, Memory>
         requires { (header : HeaderOf) × (base : StateOf) × (items : List ItemOf) × (h : History)
-            × IsWriting header base items items h self.old }
+            × IsWriting header base items items h self }
         ensures { IfOk result (λ next. (header : HeaderOf) (base : StateOf) (items : List ItemOf) (h : History) →
-            IsWriting header base items items h self.old → (more : History)
+            IsWriting header base items items h self → (more : History)
             × IsPhaseInOrder header base items (more ++ h)
             × (out.new.items ≡ out.old.items ++ event_lines more)
             × (next ≡ settled (state_after (facts_of header base) (more ++ h)))) }
     {
-        self.lanes.end(out, &mut self.pages)?;
-        if !self.pages.registers.all_ended(&self.pages.facts) {
-            return Err(Memory);
-        }
-        self.pages.registers.own().settled(alloc)
+        self.lanes.end(out)?;
+        Ok(self.pages.settle())
     }
-}
-
-/// The page counters of a phase in which the passes of the lanes with lines have begun: their lines are appended.
-fn open_lanes(
-    out: &mut Vec<u8>,
-    alloc: Global,
-    header: &Header,
-    base: State,
-    items: &[Item],
-) -> Result<(WrittenPages, LanePasses), Memory>
-    requires header { IsHeader header.now }
-    requires items { All (λ item. IsLaneOf header.now item.lane) items.now }
-    ensures { IfOk result (λ made. OpensLanes header.now (facts_of header.now base)
-        (lanes_of header.now.layout items.now) made.1 made.0 out.old.items out.new.items) }
-{
-    let mut pages = WrittenPages::open(alloc, header, base)?;
-    let lanes = LanePasses::begin(out, alloc, header, &mut pages, items)?;
-    Ok((pages, lanes))
-}
-
-/// No acts of any lane, and the walks before the first one, by slot.
-fn no_acts(alloc: Global, header: &Header) -> Result<(ActLists, Row<Walk>), Memory>
-    requires { IsHeader header.now }
-    ensures { IfOk result (λ made. (made.0 ≡ replicate (header.now.layout.cpus + 1) [])
-        × AreFirstWalks header.now made.1) }
-{
-    let slots = header.layout.cpus() as usize + 1;
-    let acts = ActLists::empty(alloc, slots)?;
-    let walks = Row::filled(alloc, slots, Walk::begin::<ExactRules>())?;
-    Ok((acts, walks))
 }

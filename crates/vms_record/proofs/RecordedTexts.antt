@@ -65,9 +65,11 @@ module _ (parts : List TracePart) (taken copied history : List ℕ) (at_end : Ty
   recorded-copy Refused whole says wrote = recorded-parts says.refusals says.parts_are says.written_is wrote
   recorded-copy _ whole says wrote = absurd whole
 
-pub RecordsItsText-is : RecordsItsText
-RecordsItsText-is status taken written left whole says =
+pub RecordsItsText-is : {S : Type 0} (left : S → Option (List ℕ)) (calls : S → ℕ) → RecordsItsText left calls
+RecordsItsText-is left calls status taken written src src' whole says =
     let followed = follows-whole says.parts says.history says.ended status whole says.follows in
-    let copies = subst (λ (s : Status). SaysCopied says.parts s taken says.copied (IsAtEnd left)) followed.0 says.by_text in
-    let recorded = recorded-copy says.parts taken says.copied says.history (IsAtEnd left) status whole copies followed.1 in
+    let copies = subst (λ (s : Status). SaysCopied says.parts s taken says.copied (IsAtEnd (left src')))
+    followed.0 says.by_text in
+    let recorded = recorded-copy says.parts taken says.copied says.history (IsAtEnd (left src')) status whole copies
+    followed.1 in
     (recorded.0, recorded.1, says.written_is ∙ recorded.2)

@@ -115,19 +115,19 @@ abbrev pub GoesOnWith : List TracePart → Status → Status → List ℕ → Ty
 GoesOnWith parts ended status history = ((status ≡ ended) × IsHistoryOf parts history)
     ⊎ (((status ≡ Memory) ⊎ (status ≡ WriteFault)) × BeginsHistoryOf parts history)
 
-pub record RecordsAfter {K : Type 0} (held : K → Option (List ℕ)) (faults : K → ℕ) (ended : Status)
+pub record RecordsAfter {K : Type 0} (held : K → Option (List ℕ)) (faults calls : K → ℕ) (ended : Status)
     (parts : List TracePart) (out out' : K) (status : Status) : Type 0 where
   pub history : List ℕ
   pub appends : Appends (held out) (held out') history
   pub goes_on : GoesOnWith parts ended status history
-  pub writes : FaultsOfSink held faults status out out'
+  pub writes : FaultsOfSink held faults calls status out out'
 
 -- what follows a copy that ended so: the history where it came to the end of the trace, and else nothing
-abbrev pub AfterCopy : {K : Type 0} → (K → Option (List ℕ)) → (K → ℕ) → Status → List TracePart → K → K → Status
-    → Type 0
-AfterCopy held faults Done parts out out' status = RecordsAfter held faults Done parts out out' status
-AfterCopy held faults Refused parts out out' status = RecordsAfter held faults Refused parts out out' status
-AfterCopy held faults ended parts out out' status = (out' ≡ out) × (status ≡ ended)
+abbrev pub AfterCopy : {K : Type 0} → (K → Option (List ℕ)) → (K → ℕ) → (K → ℕ) → Status → List TracePart → K → K
+    → Status → Type 0
+AfterCopy held faults calls Done parts out out' status = RecordsAfter held faults calls Done parts out out' status
+AfterCopy held faults calls Refused parts out out' status = RecordsAfter held faults calls Refused parts out out' status
+AfterCopy held faults calls ended parts out out' status = (out' ≡ out) × (status ≡ ended)
 
 -- then its parts are those of a trace
 abbrev pub MayFollow : Status → List TracePart → Type 0

@@ -28,7 +28,7 @@ pub(crate) fn write_history<K: Sink>(
     requires { AreParts (parts_of parts.now) }
     ensures records { RecordsParts (parts_of parts.now) (K.written out.old) (K.written out.new) result }
     ensures cause { IfErr result (λ status. (status ≡ Status.Memory) ⊎ (status ≡ Status.WriteFault)) }
-    ensures counts { CountsWrites K.written K.faults result out.old out.new }
+    ensures counts { CountsWrites K.written K.faults K.calls result out.old out.new }
 {
     let Some(header) = parts.header() else {
         unreachable!();
@@ -41,7 +41,7 @@ pub(crate) fn write_history<K: Sink>(
 fn write_first_line<K: Sink>(alloc: Global, out: &mut K) -> Result<(), Status>
     ensures writes { WritesFirstLine (K.written out.old) (K.written out.new) result }
     ensures cause { IfErr result (λ status. (status ≡ Status.Memory) ⊎ (status ≡ Status.WriteFault)) }
-    ensures counts { CountsWrites K.written K.faults result out.old out.new }
+    ensures counts { CountsWrites K.written K.faults K.calls result out.old out.new }
 {
     let mut line = Vec::new(alloc);
     push_history_line(&mut line)?;
@@ -61,7 +61,7 @@ fn write_parts<K: Sink>(
     ensures records { RecordsSegments header.now (segments_of_parts (map part_of parts.now)) (K.written out.old)
         (K.written out.new) result }
     ensures cause { IfErr result (λ status. (status ≡ Status.Memory) ⊎ (status ≡ Status.WriteFault)) }
-    ensures counts { CountsWrites K.written K.faults result out.old out.new }
+    ensures counts { CountsWrites K.written K.faults K.calls result out.old out.new }
 {
     let mut writer = HistoryWriter::begin(alloc, header)?;
     write_begun(&mut writer, header, parts, out)
@@ -80,7 +80,7 @@ fn write_begun<K: Sink>(
     ensures records { RecordsSegments header.now (segments_of_parts (map part_of parts.now)) (K.written out.old)
         (K.written out.new) result }
     ensures cause { IfErr result (λ status. (status ≡ Status.Memory) ⊎ (status ≡ Status.WriteFault)) }
-    ensures counts { CountsWrites K.written K.faults result out.old out.new }
+    ensures counts { CountsWrites K.written K.faults K.calls result out.old out.new }
 {
     recorded_histories_go_on();
     write_each(writer, header, parts, out)?;
@@ -100,7 +100,7 @@ fn write_each<K: Sink>(
     ensures records { RecordsPart header.now [] (segments_of_parts (map part_of parts.now)) [] [] writer.new
         (K.written out.old) (K.written out.new) result }
     ensures cause { IfErr result (λ status. (status ≡ Status.Memory) ⊎ (status ≡ Status.WriteFault)) }
-    ensures counts { CountsWrites K.written K.faults result out.old out.new }
+    ensures counts { CountsWrites K.written K.faults K.calls result out.old out.new }
 {
     for part in parts {
         write_part(writer, header, part, out)?;
@@ -123,7 +123,7 @@ fn write_part<K: Sink>(
         RecordsPart header.now segments (segments_of_part (part_of part.now)) after written writer.new
         (K.written out.old) (K.written out.new) result }
     ensures cause { IfErr result (λ status. (status ≡ Status.Memory) ⊎ (status ≡ Status.WriteFault)) }
-    ensures counts { CountsWrites K.written K.faults result out.old out.new }
+    ensures counts { CountsWrites K.written K.faults K.calls result out.old out.new }
 {
     pass_boundary(writer, header, part);
     write_script(writer, header, part.script(), out)
@@ -158,10 +158,10 @@ fn write_script<K: Sink>(
         RecordsPart header.now segments (phase_if_any script.now) after written writer.new
         (K.written out.old) (K.written out.new) result }
     ensures cause { IfErr result (λ status. (status ≡ Status.Memory) ⊎ (status ≡ Status.WriteFault)) }
-    ensures counts { CountsWrites K.written K.faults result out.old out.new }
+    ensures counts { CountsWrites K.written K.faults K.calls result out.old out.new }
 {
     if script.is_empty() {
         return Ok(());
     }
-    writer.write_phase(header, script.as_slice(), out)
+    writer.write_phase(header, script, out)
 }

@@ -1,2 +1,1 @@
-pub mod KernelThresholds
 pub mod RecordedWays

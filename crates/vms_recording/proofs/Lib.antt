@@ -1,7 +1,6 @@
 pub mod CountedFaults
 pub mod EventLines
 pub mod OpenPhases
-pub mod FittingItems
 pub mod MadePhases
 pub mod RecordedPhases
 pub mod FlushedBytes

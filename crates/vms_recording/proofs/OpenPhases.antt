@@ -1,18 +1,16 @@
 -- A phase whose first lines are made.
-use Rattle.std.proofs.Common.{◌≡◌, ℕ, ◌+◌, ◌<◌, ◌≤◌, true, List, [], ◌∷◌, ◌++◌, Option, add-one, ap, append-nil}
-use Rattle.std.proofs.Common.{append_assoc, drop, get_or, length, refl, subst, sym, take, take-append-drop, ◌∙◌}
+use Rattle.std.proofs.Common.{◌≡◌, ℕ, ◌+◌, ◌<◌, ◌≤◌, List, [], ◌∷◌, ◌++◌, Option, add-one, ap, append-nil, append_assoc}
+use Rattle.std.proofs.Common.{drop, get_or, length, refl, subst, sym, take, take-append-drop, ◌∙◌}
 use Rattle.std.proofs.KnownBytes.{Appends-nil, Appends-trans}
 use Rattle.std.proofs.Math.Seq.{take-suc}
-use Rattle.std.proofs.lemmas.List.{take_all}
+use Rattle.std.proofs.lemmas.List.{drop_more, take_all}
 use Rattle.std.specs.Io.KnownBytes.{Appends}
-use Rattle.std.specs.Prelude.{All, Err, Ok}
+use Rattle.std.specs.Prelude.{Err, Ok}
 use Rattle.vms_core.specs.Pages.{History}
-use Rattle.vms_file_order.proofs.Common.{lines-among_lanes}
 use Rattle.vms_phase_lines.specs.Common.{IsWriting, event_lines}
 use Rattle.vms_phase_lines.specs.declared.phases.PhaseWriter.{PhaseWriter}
 use Rattle.vms_stream.specs.declared.statuses.Status.{Status}
-use Rattle.vms_walks.specs.Walks.{IsPageAct}
-use Rattle.vms_world.specs.Common.{Header, IsLaneOf, Item, State, is_among, lanes_of}
+use Rattle.vms_world.specs.Common.{Header, Item, State}
 use Rattle.vms_recording.specs.Common.{BeginsPhase, WritesLines}
 use Rattle.vms_recording.proofs.EventLines.{events-more, front-moved, text-more}
 
@@ -41,7 +39,7 @@ module _ (header : Header) (s : State) (items : List Item) (h : History) (waitin
       made = take n items;
       left = drop n items;
       parts = sym (take-append-drop n items);
-      legal = is.writing.are.shows.legal;
+      legal = is.writing.stands.legal;
       follow = is.writing.follow;
     }
 
@@ -86,11 +84,11 @@ module _ (header : Header) (s : State) (items : List Item) (h : History) (waitin
       );
     }
 
-    module _ (known : All (λ item. IsLaneOf header item.lane × IsPageAct header.layout item.lane item.act) items)
-        (item d : Item) (below : n < length items) (item-is : item ≡ get_or items n d) where
-      pub among : is_among item.lane (lanes_of header.layout items) ≡ true
-      among = subst (λ (i : Item). is_among i.lane (lanes_of header.layout items) ≡ true) (sym item-is)
-          (lines-among_lanes header items (λ k e within. (known k e within).0) n d below)
+    module _ (item d : Item) (below : n < length items) (item-is : item ≡ get_or items n d) where
+      -- the next line stands between those that are made and those that are left
+      pub parts-next : items ≡ take n items ++ item ∷ drop (n + 1) items
+      parts-next = sym (take-append-drop n items) ∙ ap (λ (rest : List Item). take n items ++ rest)
+          (drop_more items n d below ∙ ap (λ (i : Item). i ∷ drop (n + 1) items) (sym item-is))
 
       -- the next line is made
       pub IsOpen-line : (later : History) (phase' : PhaseWriter)

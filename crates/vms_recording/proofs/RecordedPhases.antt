@@ -26,11 +26,11 @@ module _ (header : Header) (segments : List Segment) (hs : List History) (start 
     (written : List ℕ) (writer : HistoryWriter) (is : IsRecording header segments hs start s written writer)
     (items : List Item) (waiting' : List ℕ) (held held' : Option (List ℕ)) where
   -- the writing stops
-  pub RecordsPhase-stopped : (base : State) → base ≡ s → (error : Status)
-      → WritesPhase header base items writer.waiting.items waiting' held held' (Err error)
+  pub RecordsPhase-stopped : (base : State) → base ≡ s → (lines : List Item) → lines ≡ items → (error : Status)
+      → WritesPhase header base lines writer.waiting.items waiting' held held' (Err error)
       → (writer' : HistoryWriter) (told : Status)
       → RecordsPhase header segments hs start s written items writer' held held' (Err told)
-  RecordsPhase-stopped base same error begun writer' told = record {
+  RecordsPhase-stopped base same lines one error begun writer' told = record {
     moved = made.moved;
     appends = made.appends;
     outcome = by made.outcome;
@@ -38,7 +38,8 @@ module _ (header : Header) (segments : List Segment) (hs : List History) (start 
     where
       made : WritesPhase header s items writer.waiting.items waiting' held held' (Err error)
       made = subst (λ (t : State). WritesPhase header t items writer.waiting.items waiting' held held' (Err error)) same
-          begun
+          (subst (λ (is : List Item). WritesPhase header base is writer.waiting.items waiting' held held' (Err error))
+          one begun)
 
       by : (made.moved ≡ []) ⊎ ((h : History) × (rest : List ℕ) × IsPartOfPhase header s items h
           × (made.moved ++ rest ≡ writer.waiting.items ++ phase_lines h))

@@ -1,11 +1,10 @@
 //! The page events of a phase, written in pieces.
 
-ghost use Rattle.std.specs.Prelude.{◌≡◌, ◌⊎◌, ◌≤◌, [], All, IfErr, OnOk, length};
+ghost use Rattle.std.specs.Prelude.{◌≡◌, ◌⊎◌, ◌≤◌, [], IfErr, OnOk, length};
 ghost use Rattle.vms_core.specs.Pages.{History};
-ghost use Rattle.vms_phase_lines.specs.Common.{IsWriting};
+ghost use Rattle.vms_phase_lines.specs.Common.{FitPages, IsWriting};
 ghost use Rattle.vms_stream.specs.Common.{CountsWrites};
-ghost use Rattle.vms_walks.specs.Walks.{IsPageAct};
-ghost use Rattle.vms_world.specs.Common.{IsHeader, IsLaneOf, State as StateOf};
+ghost use Rattle.vms_world.specs.Common.{IsHeader, State as StateOf};
 ghost use Rattle.vms_recording.specs.PhaseParts.{WritesLines, WritesPhase, WritesRest};
 ghost use Rattle.vms_recording.specs.Written.{most_waiting};
 
@@ -29,40 +28,36 @@ pub(crate) fn write_pieces<K: Sink>(
     out: &mut K,
 ) -> Result<State, Status>
     requires header { IsHeader header.now }
-    requires items { All (λ item. IsLaneOf header.now item.lane × IsPageAct header.now.layout item.lane item.act)
-        items.now }
+    requires fit { FitPages header.now base items.now }
     ensures writes { WritesPhase header.now base items.now waiting.old.items waiting.new.items (K.written out.old)
         (K.written out.new) result }
     ensures few { OnOk result (length waiting.new.items ≤ most_waiting) }
     ensures cause { IfErr result (λ status. (status ≡ Status.Memory) ⊎ (status ≡ Status.WriteFault)) }
-    ensures counts { CountsWrites K.written K.faults result out.old out.new }
+    ensures counts { CountsWrites K.written K.faults K.calls result out.old out.new }
 {
-    let mut phase = PhaseWriter::begin(waiting, alloc, header, base, items)?;
-    write_begun(&mut phase, waiting, alloc, header, items, out)
+    let phase = PhaseWriter::begin(waiting, alloc, header, base, items)?;
+    write_begun(phase, waiting, header, items, out)
 }
 
 /// Does so with a phase that has begun.
 fn write_begun<K: Sink>(
-    phase: &mut PhaseWriter,
+    mut phase: PhaseWriter,
     waiting: &mut Vec<u8>,
-    alloc: Global,
     header: &Header,
     items: &[Item],
     out: &mut K,
 ) -> Result<State, Status>
     requires header { IsHeader header.now }
-    requires items { All (λ item. IsLaneOf header.now item.lane × IsPageAct header.now.layout item.lane item.act)
-        items.now }
-    requires writing { (s : StateOf) × (h : History) × IsWriting header.now s items.now [] h phase.old }
-    ensures writes { (s : StateOf) (h : History) → IsWriting header.now s items.now [] h phase.old →
+    requires writing { (s : StateOf) × (h : History) × IsWriting header.now s items.now [] h phase }
+    ensures writes { (s : StateOf) (h : History) → IsWriting header.now s items.now [] h phase →
         WritesRest header.now s items.now h waiting.old.items waiting.new.items (K.written out.old)
         (K.written out.new) result }
     ensures few { OnOk result (length waiting.new.items ≤ most_waiting) }
     ensures cause { IfErr result (λ status. (status ≡ Status.Memory) ⊎ (status ≡ Status.WriteFault)) }
-    ensures counts { CountsWrites K.written K.faults result out.old out.new }
+    ensures counts { CountsWrites K.written K.faults K.calls result out.old out.new }
 {
-    write_lines(phase, waiting, header, items, out)?;
-    let pages = phase.end(waiting, alloc)?;
+    write_lines(&mut phase, waiting, header, items, out)?;
+    let pages = phase.end(waiting)?;
     write_above(waiting, out)?;
     Ok(pages)
 }
@@ -76,14 +71,12 @@ fn write_lines<K: Sink>(
     out: &mut K,
 ) -> Result<(), Status>
     requires header { IsHeader header.now }
-    requires items { All (λ item. IsLaneOf header.now item.lane × IsPageAct header.now.layout item.lane item.act)
-        items.now }
     requires writing { (s : StateOf) × (h : History) × IsWriting header.now s items.now [] h phase.old }
     ensures writes { (s : StateOf) (h : History) → IsWriting header.now s items.now [] h phase.old →
         WritesLines header.now s items.now h waiting.old.items waiting.new.items (K.written out.old)
         (K.written out.new) phase.new result }
     ensures cause { IfErr result (λ status. (status ≡ Status.Memory) ⊎ (status ≡ Status.WriteFault)) }
-    ensures counts { CountsWrites K.written K.faults result out.old out.new }
+    ensures counts { CountsWrites K.written K.faults K.calls result out.old out.new }
 {
     for item in items {
         phase.write_line(waiting, header, item)?;

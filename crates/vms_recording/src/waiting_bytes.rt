@@ -16,7 +16,7 @@ pub(crate) fn write_above<K: Sink>(waiting: &mut Vec<u8>, out: &mut K) -> Result
         (λ rest. OnOk result (waiting.new.items ≡ rest)) }
     ensures few { OnOk result (length waiting.new.items ≤ most_waiting) }
     ensures cause { IfErr result (λ status. status ≡ Status.WriteFault) }
-    ensures counts { CountsWrites K.written K.faults result out.old out.new }
+    ensures counts { CountsWrites K.written K.faults K.calls result out.old out.new }
 {
     if waiting.len() > MOST_WAITING {
         write_waiting(waiting, out)?;
@@ -30,7 +30,7 @@ pub(crate) fn write_waiting<K: Sink>(waiting: &mut Vec<u8>, out: &mut K) -> Resu
         (λ rest. OnOk result (waiting.new.items ≡ rest)) }
     ensures empty { OnOk result (waiting.new.items ≡ []) }
     ensures cause { IfErr result (λ status. status ≡ Status.WriteFault) }
-    ensures counts { CountsWrites K.written K.faults result out.old out.new }
+    ensures counts { CountsWrites K.written K.faults K.calls result out.old out.new }
 {
     write_all(out, waiting.as_slice())?;
     waiting.clear();

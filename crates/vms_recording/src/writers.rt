@@ -6,9 +6,9 @@ use vms_core::State;
 use vms_io::Sink;
 use vms_page_crossings::{cross, first_pages};
 use vms_recorded::recorded_histories_go_on;
+use vms_script::PhaseScript;
 use vms_stream::Status;
-use vms_text::{Boundary, Item};
-use vms_walks::fitting_lines_are_page_acts;
+use vms_text::Boundary;
 
 /// Writes the recorded history of a text, segment by segment: the lines that stand after the line `history 1`. They are
 /// written in pieces of more than 64 KiB; what is left waits for the next ones.
@@ -51,24 +51,24 @@ impl HistoryWriter {
     pub fn write_phase<K: Sink>(
         &mut self,
         header: &Header,
-        items: &[Item],
+        script: &PhaseScript,
         out: &mut K,
     ) -> Result<(), Status>
         requires header { IsHeader header.now }
         requires recording { (segments : List Segment) × (hs : List History) × (start : Start) × (s : StateOf)
             × (written : List ℕ) × IsRecording header.now segments hs start s written self.old
-            × Fits header.now start items.now }
+            × Fits header.now start script.now }
         ensures records { (segments : List Segment) (hs : List History) (start : Start) (s : StateOf)
             (written : List ℕ) → IsRecording header.now segments hs start s written self.old →
-            Fits header.now start items.now → RecordsPhase header.now segments hs start s written items.now self.new
+            Fits header.now start script.now → RecordsPhase header.now segments hs start s written script.now self.new
             (K.written out.old) (K.written out.new) result }
         ensures cause { IfErr result (λ status. (status ≡ Status.Memory) ⊎ (status ≡ Status.WriteFault)) }
-        ensures counts { CountsWrites K.written K.faults result out.old out.new }
+        ensures counts { CountsWrites K.written K.faults K.calls result out.old out.new }
     {
-        fitting_lines_are_page_acts();
         let Some(base) = self.pages.take() else {
             unreachable!();
         };
+        let items = script.as_slice();
         let pages = write_pieces(&mut self.waiting, self.alloc, header, base, items, out)?;
         self.pages = Some(pages);
         recorded_histories_go_on();
@@ -102,7 +102,7 @@ impl HistoryWriter {
             (s : StateOf) (written : List ℕ) → IsRecording header segments hs start s written self.old →
             Flushes header segments hs start s written self.new (K.written out.old) (K.written out.new) result }
         ensures cause { IfErr result (λ status. status ≡ Status.WriteFault) }
-        ensures counts { CountsWrites K.written K.faults result out.old out.new }
+        ensures counts { CountsWrites K.written K.faults K.calls result out.old out.new }
     {
         write_waiting(&mut self.waiting, out)
     }

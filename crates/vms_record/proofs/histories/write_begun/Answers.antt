@@ -30,5 +30,5 @@ returns-clause-records g c =
 
 pub returns-clause-counts : goal.returns-clause-counts
 returns-clause-counts g c =
-    counts-on g.K.Sink.written g.K.Sink.faults c.args.out.now c.write_each.new.out c.flush.new.out c.flush.result
-    c.in_ok-write_each.ensures.counts c.flush.ensures.counts
+    counts-on g.K.Sink.written g.K.Sink.faults g.K.Sink.calls c.args.out.now c.write_each.new.out c.flush.new.out
+    c.flush.result c.in_ok-write_each.ensures.counts c.flush.ensures.counts

@@ -65,8 +65,8 @@ returns-in_err-write_part-clause-records g c =
 pub returns-in_err-write_part-clause-counts : goal.returns-in_err-write_part-clause-counts
 returns-in_err-write_part-clause-counts g c =
     let p = err_from_is_err_and c.from_residual.result c.from_residual.ensures.1 in
-    rw (p.1, p.2) (write-on g.K.Sink.written g.K.Sink.faults c.args.out.now c.loop-part.out c.write_part.new.out _
-    c.loop-part.invariant.7 c.in_err-write_part.ensures.counts)
+    rw (p.1, p.2) (write-on g.K.Sink.written g.K.Sink.faults g.K.Sink.calls c.args.out.now c.loop-part.out
+    c.write_part.new.out _ c.loop-part.invariant.7 c.in_err-write_part.ensures.counts)
 
 pub loop-part-preserved : goal.loop-part-preserved
 loop-part-preserved g c =

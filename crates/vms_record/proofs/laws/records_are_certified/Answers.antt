@@ -8,14 +8,15 @@ use Rattle.vms_record.proofs.RecordedTexts.{RecordsItsText-is}
 use Rattle.vms_record.proofs.laws.records_are_certified.Goals as goal
 
 pub returns-clause-text : goal.returns-clause-text
-returns-clause-text c = RecordsItsText-is
+returns-clause-text g c = RecordsItsText-is g.S.Source.remaining g.S.Source.calls
 
 pub returns-clause-certified : goal.returns-clause-certified
-returns-clause-certified c = λ status verdict taken written output left after whole says within certifies.
-    let recorded = RecordsItsText-is status taken written left whole says in (
+returns-clause-certified g c = λ status verdict taken written output src src' after whole says within certifies.
+    let recorded = RecordsItsText-is g.S.Source.remaining g.S.Source.calls status taken written src src' whole says in (
       recorded.0,
       recorded.1,
       c.recorded_texts_have_no_fault.ensures _ recorded.0 verdict output after recorded.1
           (subst (λ (text : List ℕ). length text ≤ most_bytes) recorded.2 within)
-          (subst (λ (text : List ℕ). SaysCertify kernel_rules verdict text output (IsAtEnd after)) recorded.2 certifies),
+          (subst (λ (text : List ℕ). SaysCertify kernel_rules verdict text output (IsAtEnd after)) recorded.2
+          certifies),
     )

@@ -10,8 +10,8 @@ returns-in-Ok g c =
       history = records.written;
       appends = records.appends;
       goes_on = inl (refl, records.outcome);
-      writes = unfailed-writes g.K.Sink.written g.K.Sink.faults c.args.ended c.args.out.now c.write_history.new.out
-          c.requires.ended c.in-Ok.ensures.counts;
+      writes = unfailed-writes g.K.Sink.written g.K.Sink.faults g.K.Sink.calls c.args.ended c.args.out.now
+          c.write_history.new.out c.requires.ended c.in-Ok.ensures.counts;
     }
 
 pub returns-in-Err : goal.returns-in-Err

@@ -1,6 +1,6 @@
 -- The first page counters, each phase and each boundary line.
 use Rattle.std.proofs.Common.{refl}
-use Rattle.vms_recorded.proofs.KernelThresholds.{normal-gives}
+use Rattle.vms_phase_lines.proofs.KernelThresholds.{normal-gives}
 use Rattle.vms_recorded.proofs.RecordedWays.{history_lines-more, leads-boundary, leads-phase, phase-written}
 use Rattle.vms_recorded.proofs.laws.recorded_histories_go_on.Goals as goal
 

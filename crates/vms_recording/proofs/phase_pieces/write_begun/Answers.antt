@@ -43,7 +43,7 @@ pub returns-in_err-write_above-clause-counts : goal.returns-in_err-write_above-c
 returns-in_err-write_above-clause-counts g c =
     let p = err_from_is_err_and c.from_residual-in_err-write_above.result
     c.from_residual-in_err-write_above.ensures.1 in
-    rw (p.1, p.2) (faults-after g.K.Sink.written g.K.Sink.faults c.args.out.now c.write_lines.new.out
+    rw (p.1, p.2) (faults-after g.K.Sink.written g.K.Sink.faults g.K.Sink.calls c.args.out.now c.write_lines.new.out
     c.write_above.new.out _ c.in_ok-write_lines.ensures.counts c.in_err-write_above.ensures.counts)
 
 pub returns-clause-writes : goal.returns-clause-writes

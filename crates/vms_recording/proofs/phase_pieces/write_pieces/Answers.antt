@@ -3,9 +3,6 @@ use Rattle.std.proofs.lemmas.Result.{err_from_is_err_and}
 use Rattle.vms_recording.proofs.MadePhases.{WritesPhase-begun, WritesPhase-unbegun}
 use Rattle.vms_recording.proofs.phase_pieces.write_pieces.Goals as goal
 
-pub begin-requires-clause-items : goal.begin-requires-clause-items
-begin-requires-clause-items g c = λ k d within. (c.requires.items k d within).0
-
 pub returns-in_err-phase-clause-writes : goal.returns-in_err-phase-clause-writes
 returns-in_err-phase-clause-writes g c =
     let p = err_from_is_err_and c.from_residual.result c.from_residual.ensures.1 in

@@ -4,19 +4,17 @@ use Rattle.std.proofs.Common.{sym, ℕ, ◌∙◌}
 use Rattle.vms_world.specs.Common.{Control, Cpu, Lane, has_line, lanes_below}
 use Rattle.vms_phase_lines.specs.Common.{OpensLanes}
 use Rattle.vms_phase_lines.proofs.LanePlaces.{control-apart, length-below, next-apart}
-use Rattle.vms_phase_lines.proofs.PhaseStarts.{OpensLanes-none}
+use Rattle.vms_phase_lines.proofs.Openings.{OpensLanes-none}
 use Rattle.vms_phase_lines.proofs.lanes.LanePasses.begin.Goals as goal
 
 pub loop-number-init : goal.loop-number-init
-loop-number-init c = λ facts are.
-    OpensLanes-none c.args.header.now facts c.in_ok-lanes.lanes c.args.pages.now c.args.out.now.items
-    c.in_ok-lanes.ensures are
+loop-number-init c =
+    OpensLanes-none c.args.header.now c.in_ok-lanes.lanes c.args.out.now.items c.in_ok-lanes.ensures
 
 pub begin_if-requires-clause-opens : goal.begin_if-requires-clause-opens
 begin_if-requires-clause-opens c =
     let n = c.loop-number.number in
     let items = c.args.items.now in (
-      c.requires.pages.0,
       lanes_below n items,
       c.args.out.now.items,
       next-apart n items,
@@ -27,29 +25,27 @@ begin_if-requires-clause-opens c =
         c.cpus-cpus.ensures.value,
         c.requires.header.is_layout.cpus_most,
       ),
-      c.loop-number.invariant c.requires.pages.0 c.requires.pages.1,
+      c.loop-number.invariant,
     )
 
 pub loop-number-preserved : goal.loop-number-preserved
-loop-number-preserved c = λ facts are.
+loop-number-preserved c =
     let n = c.loop-number.number in
     let items = c.args.items.now in
     let lane : Lane = Cpu (record { number = n }) in
     let known : n < c.args.header.now.layout.cpus =
     omega (arith, c.loop-number-test.true, c.cpus-cpus.ensures.value) in
     let lined : c.get.result ≡ has_line lane items = sym (c.get.ensures false) ∙ c.in_ok-lined.ensures.each lane known in
-    subst (λ (m : ℕ). OpensLanes c.args.header.now facts (lanes_below m items) c.begin_if.new.self c.begin_if.new.pages
-    c.args.out.now.items c.begin_if.new.out.items) (sym (add-one n))
-    (subst (λ (b : Bool). OpensLanes c.args.header.now facts (lanes_below n items ++ (if b then lane ∷ [] else []))
-    c.begin_if.new.self c.begin_if.new.pages c.args.out.now.items c.begin_if.new.out.items) lined
-    (c.in_ok-begin_if.ensures facts (lanes_below n items) c.args.out.now.items (next-apart n items)
-    (c.loop-number.invariant facts are)))
+    subst (λ (m : ℕ). OpensLanes c.args.header.now (lanes_below m items) c.begin_if.new.self c.args.out.now.items
+    c.begin_if.new.out.items) (sym (add-one n))
+    (subst (λ (b : Bool). OpensLanes c.args.header.now (lanes_below n items ++ (if b then lane ∷ [] else []))
+    c.begin_if.new.self c.args.out.now.items c.begin_if.new.out.items) lined
+    (c.in_ok-begin_if.ensures (lanes_below n items) c.args.out.now.items (next-apart n items) c.loop-number.invariant))
 
 pub begin_if-requires-2-clause-opens : goal.begin_if-requires-2-clause-opens
 begin_if-requires-2-clause-opens c =
     let n = c.loop-number.number in
     let items = c.args.items.now in (
-      c.requires.pages.0,
       lanes_below n items,
       c.args.out.now.items,
       control-apart n items,
@@ -60,11 +56,11 @@ begin_if-requires-2-clause-opens c =
         c.cpus-cpus.ensures.value,
         c.requires.header.is_layout.cpus_most,
       ),
-      c.loop-number.invariant c.requires.pages.0 c.requires.pages.1,
+      c.loop-number.invariant,
     )
 
 pub returns : goal.returns
-returns c = λ facts are.
+returns c =
     let n = c.loop-number.number in
     let items = c.args.items.now in
     let all : n ≡ c.args.header.now.layout.cpus =
@@ -72,10 +68,10 @@ returns c = λ facts are.
     let lined : c.get-2.result ≡ has_line Control items = sym (c.get-2.ensures false)
     ∙ ap (λ (k : ℕ). get_or c.in_ok-lined.lined k false) c.cpus-cpus.ensures.value
     ∙ c.in_ok-lined.ensures.each Control tt in
-    subst (λ (m : ℕ). OpensLanes c.args.header.now facts
+    subst (λ (m : ℕ). OpensLanes c.args.header.now
     (lanes_below m items ++ (if has_line Control items then Control ∷ [] else [])) c.begin_if-2.new.self
-    c.begin_if-2.new.pages c.args.out.now.items c.begin_if-2.new.out.items) all
-    (subst (λ (b : Bool). OpensLanes c.args.header.now facts (lanes_below n items ++ (if b then Control ∷ [] else []))
-    c.begin_if-2.new.self c.begin_if-2.new.pages c.args.out.now.items c.begin_if-2.new.out.items) lined
-    (c.in_ok-begin_if-2.ensures facts (lanes_below n items) c.args.out.now.items (control-apart n items)
-    (c.loop-number.invariant facts are)))
+    c.args.out.now.items c.begin_if-2.new.out.items) all
+    (subst (λ (b : Bool). OpensLanes c.args.header.now (lanes_below n items ++ (if b then Control ∷ [] else []))
+    c.begin_if-2.new.self c.args.out.now.items c.begin_if-2.new.out.items) lined
+    (c.in_ok-begin_if-2.ensures (lanes_below n items) c.args.out.now.items (control-apart n items)
+    c.loop-number.invariant))

@@ -1,11 +1,10 @@
-use Rattle.std.proofs.Common.{◌≡◌, List, length}
-use Rattle.vms_core.specs.Pages.{History}
-use Rattle.vms_world.specs.Common.{Facts, Lane}
-use Rattle.vms_phase_lines.specs.Common.{AreAfter}
-use Rattle.vms_phase_lines.proofs.Closings.{HaveEnded}
+use Rattle.std.proofs.Common.{◌≡◌, ◌++◌, List, length}
+use Rattle.vms_world.specs.Common.{Lane}
+use Rattle.vms_phase_lines.specs.Common.{event_lines}
+use Rattle.vms_phase_lines.proofs.Closings.{ended_first}
 use Rattle.vms_phase_lines.proofs.lanes.LanePasses.end.Given as goal
 
--- the first passes have ended
+-- the lines of the first passes' ends are written
 abbrev pub invariant-loop-ended : goal.invariant-loop-ended
-invariant-loop-ended l = (facts : Facts) (lanes : List Lane) (h : History) → l.self.begun ≡ length lanes
-    → AreAfter facts h l.fn.pages → HaveEnded facts lanes h l.ended l.pages l.fn.out.items l.out.items
+invariant-loop-ended l = (lanes : List Lane) → l.self.begun ≡ length lanes
+    → l.out.items ≡ l.fn.out.items ++ event_lines (ended_first lanes l.ended)

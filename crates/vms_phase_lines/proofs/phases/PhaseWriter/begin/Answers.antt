@@ -1,19 +1,29 @@
--- The phase is open before its first line.
+-- The lines are of lanes, the page counters may begin a phase, and the phase is open before its first line.
 use Rattle.vms_world.specs.Common.{lanes_of}
 use Rattle.vms_file_order.specs.Common.{opening_of, page_passes}
 use Rattle.vms_written_lines.specs.Spelling.{phase_line}
-use Rattle.vms_phase_lines.proofs.PhaseEnds.{lines-first}
-use Rattle.vms_phase_lines.proofs.PhaseStarts.{IsWriting-open}
+use Rattle.vms_phase_lines.proofs.PhaseEnds.{IsBase-fit, IsWriting-open, lines-first}
 use Rattle.vms_phase_lines.proofs.phases.PhaseWriter.begin.Goals as goal
+
+pub begin-requires-clause-items : goal.begin-requires-clause-items
+begin-requires-clause-items c = λ k d within. (c.requires.fit.fits.known k d within).0
+
+pub make-requires : goal.make-requires
+make-requires c = (IsBase-fit c.args.header.now c.args.base c.args.items.now c.requires.fit).opening
+
+pub make-requires-2 : goal.make-requires-2
+make-requires-2 c =
+    let base = IsBase-fit c.args.header.now c.args.base c.args.items.now c.requires.fit in
+    record { shape = c.args.header.now.layout; is_layout = base.layout; opening = base.opening }
 
 pub returns : goal.returns
 returns c =
     let header = c.args.header.now in
-    let opens = c.in_ok-pages.ensures in
+    let opens = c.in_ok-lanes.ensures in
     let h = opening_of page_passes (lanes_of header.layout c.args.items.now) in (
       h,
-      IsWriting-open header c.args.base c.args.items.now c.in_ok-pages.pages c.in_ok-pages.lanes c.in_ok-acts.acts
-          c.in_ok-acts.ensures.0 c.in_ok-acts.walks c.in_ok-acts.ensures.1 opens.begins opens.are,
-      lines-first c.args.out.now.items c.push_phase_line.new.out.items c.open_lanes.new.out.items phase_line h
+      IsWriting-open header c.args.base c.args.items.now c.requires.fit c.in_ok-lanes.lanes opens.begins
+          c.in_ok-peaks.peaks (c.in_ok-peaks.ensures header.sizes) c.make-2.result c.make-2.ensures,
+      lines-first c.args.out.now.items c.push_phase_line.new.out.items c.begin.new.out.items phase_line h
           c.in_ok-push_phase_line.ensures.ok opens.lines,
     )

@@ -1,4 +1,4 @@
--- The kernel's normal rule gives thresholds.
+-- For other crates too: the kernel's normal formula gives thresholds.
 use Rattle.std.proofs.Common.{◌≡◌, ℕ, zero, suc, ◌+◌, ◌*◌, ◌/◌, ◌^◌, ◌≤◌, nat_le, Bool, true, false, arith, sym, subst}
 use Rattle.std.proofs.Common.{if◌then◌else◌, refl}
 use Rattle.std.specs.Prelude.{min}
