@@ -85,7 +85,7 @@ def from_socket(words, packets, fails=False):
         theirs.send(b"x")
     with tempfile.TemporaryFile() as file:
         with theirs:
-            process = subprocess.Popen(words, stdin=theirs, stdout=file)
+            process = subprocess.Popen(words, stdin=theirs, stdout=file, stderr=subprocess.DEVNULL)
         with ours:
             try:
                 for packet in packets:

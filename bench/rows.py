@@ -15,7 +15,9 @@ In bench/rows there are
 - NAME.vmhistory with NAME.out, of `certify`;
 - `spoiled_lines`: the number of a line of history_of_a_change.vmhistory, what `certify` says of it with another line in
   its place, as the number and the cause, and that line. `end` for the number is a line after the last one, and for the
-  line nothing stands there;
+  line nothing stands there. On standard error the proved program says that the line of this number is due, or nothing;
+- `due_lines`: NAME.vmhistory, the number of a line of it, what the proved program says is due on standard error with
+  another line in its place, `|`, and that line. For no line nothing stands there, and the history ends;
 - `statuses`: the status of each NAME, and `same` where lanes race and every order gives the same bytes;
 - `headers`: the line at fault and its cause, and the text, with escapes as in C;
 - `watermarks`: KBYTES, SCALE, the managed pages of a zone and of all, and its watermarks, as `check` writes them;
@@ -84,9 +86,15 @@ def without_refusals(checked):
     return re.sub(rb"refused [0-9]+\n\Z", b"refused 0\n", text)
 
 
+def said_on_error(words, text):
+    """The status and standard error of a program that reads this text from a pipe."""
+    done = subprocess.run(words, input=text, capture_output=True, timeout=60)
+    return done.returncode, done.stderr
+
+
 class Answers:
-    def __init__(self, programs, usage, shows_all):
-        self.programs, self.usage, self.shows_all = programs, usage, shows_all
+    def __init__(self, programs, usage, shows_all, tells_due):
+        self.programs, self.usage, self.shows_all, self.tells_due = programs, usage, shows_all, tells_due
         self.count = self.differ = 0
 
     def expect(self, what, found, wanted, same_in_order=None):
@@ -113,6 +121,12 @@ class Answers:
                 packets = [text[at:at + size] for at in range(0, len(text), size)]
                 self.expect(f"{command} of {name}, in pieces of {size},", from_socket(words, packets), wanted,
                             same_in_order)
+
+    def ask_of_due(self, name, text, due):
+        """What is due where `certify` refuses a history. The plain program doesn't tell it."""
+        if self.tells_due:
+            self.expect(f"what is due by certify of {name}", said_on_error([self.programs["certify"], "certify"], text),
+                        (NOT_CERTIFIED, b"due: " + due + b"\n"))
 
     def ask_of_trace(self, name, text, status, out, checked, is_same):
         """All that is known of a trace of counters: what `replay` and `run` print, and what `check` writes."""
@@ -199,6 +213,8 @@ def ask_all(answers, wanted_name):
             answers.ask("groups", name, groups, (int(status), out))
         elif history is not None:
             answers.ask("certify", name, history, (int(status), out))
+            if name == "history_is_missing":
+                answers.ask_of_due(name, history, b"history 1")
             if name == "history_of_a_change":
                 trace = history[:history.index(b"history 1\n")]
                 answers.ask("record", name, trace, (0, history))
@@ -232,6 +248,16 @@ def ask_all(answers, wanted_name):
             text = b"".join([*history[:at], *([instead.encode() + b"\n"] if instead else []), *history[at + 1:]])
             answers.ask("certify", f"the line {number} {instead}", text,
                         (NOT_CERTIFIED, f"line {fault}: {cause}\n".encode()))
+            answers.ask_of_due(f"the line {number} {instead}", text,
+                               history[at].rstrip(b"\n") if at < len(history) else b"nothing")
+    if wanted_name in (None, "due_lines"):
+        for line in table("due_lines"):
+            rows += 1
+            told, instead = line.split(" | ") if " | " in line else (line.removesuffix(" |"), "")
+            name, number, due = told.split(" ", 2)
+            history = contents(name + ".vmhistory").splitlines(keepends=True)[:int(number) - 1]
+            text = b"".join([*history, instead.encode() + b"\n"] if instead else history)
+            answers.ask_of_due(f"the line {number} {instead} of {name}", text, due.encode())
     if wanted_name in (None, "watermarks"):
         for line in table("watermarks"):
             rows += 1
@@ -248,7 +274,7 @@ def main():
     with tempfile.TemporaryDirectory() as folder:
         proved = os.environ.get("VOZHKELL")
         programs = {command: proved or built(command, folder) for command in COMMANDS}
-        answers = Answers(programs, USAGE if proved else USAGE_OF_REPLAY, wanted_name is not None)
+        answers = Answers(programs, USAGE if proved else USAGE_OF_REPLAY, wanted_name is not None, bool(proved))
         rows = ask_all(answers, wanted_name)
     if not rows:
         print(f"bench/rows.py: there is no row {wanted_name}", file=sys.stderr)

@@ -12,9 +12,9 @@ use Rattle.vms_stream.specs.declared.statuses.Status.TheVariants.{Done, Words, R
 use Rattle.vms_stream.specs.declared.statuses.Status.TheVariants.{NotCertified, TooLong}
 use Rattle.vms_stream.specs.declared.statuses.Status.TheVariants as statuses
 use Rattle.vms_stream.specs.Common.{AllUsed, AreMade, Behavior, Ends, Halts, IsOn, On, OutcomesLead, Oversteps}
-use Rattle.vms_stream.specs.Common.{OutcomesLeadToEnd, PhasedBehavior, SaysPhased, Short, UsedAtEnd, Way, halted}
-use Rattle.vms_stream.specs.Common.{last_of_way, last_words, lines_taken, most_bytes, printed, shown_on, state_after}
-use Rattle.vms_stream.specs.Common.{way_ends, whole_lines, with_outcomes}
+use Rattle.vms_stream.specs.Common.{OutcomesLeadToEnd, PhasedBehavior, Reading, SaysPhased, Short, UsedAtEnd, Way}
+use Rattle.vms_stream.specs.Common.{halted, last_of_way, last_words, lines_taken, most_bytes, printed, shown_on}
+use Rattle.vms_stream.specs.Common.{state_after, way_ends, whole_lines, with_outcomes}
 use Rattle.vms_command.specs.Common.{status_at_end}
 use Rattle.vms_phase_checks.specs.declared.faults.EventCause.TheVariants.{Incomplete}
 use Rattle.vms_certifying.specs.declared.verdicts.Verdict.{Verdict}
@@ -29,7 +29,7 @@ use Rattle.vms_certifying.proofs.StoppedTexts.{StopsAs, stop}
 use Rattle.vms_certifying.proofs.StoppedTexts.StopsAs.{by_header, by_history, by_limits}
 use Rattle.vms_certifying.proofs.WalkedTexts.{Stood, walk}
 
-module _ (rules : HistoryRules) (verdicts : List Verdict) (taken written : List ℕ) (at_end : Type 0) where
+module _ (rules : HistoryRules) (verdicts : List Verdict) (taken written : List ℕ) (reading : Reading) where
   abbrev phased : PhasedBehavior CertifyState Verdict
   phased = certifying rules
 
@@ -45,14 +45,14 @@ module _ (rules : HistoryRules) (verdicts : List Verdict) (taken written : List 
   shown-is_on Short shown = shown
 
   -- the command came to the end of its input
-  module _ (ended : at_end) (within : length taken ≤ most_bytes) where
+  module _ (ended : reading.at_end) (within : length taken ≤ most_bytes) where
     abbrev all : List (List ℕ)
     all = lines_of taken
 
     -- as it is said of the state and of the verdicts that are left there
     at-end : (t : CertifyState) (left : List Verdict) → Stood rules all verdicts t [] → UsedAtEnd phased t left
         → shown_on phased shown_nothing (On t left) → written ≡ last_of_way phased (On t left)
-        → SaysCertify rules (way_ends phased (On t left)) taken written at_end
+        → SaysCertify rules (way_ends phased (On t left)) taken written reading.at_end
     at-end (Heading n stage) left (k, number, after, read) used shown prints = record {
       lines = all;
       judged = inr (ended, within, refl);
@@ -111,7 +111,7 @@ module _ (rules : HistoryRules) (verdicts : List Verdict) (taken written : List 
         by (nat_lt 0 (trace_above header texts).refused) refl
       where
         certified : (refused : ℕ → Type 0) → refused (trace_above header texts).refused
-            → Certifies rules taken written at_end refused
+            → Certifies rules taken written reading.at_end refused
         certified refused holds = record {
           ended = ended;
           within = within;
@@ -132,17 +132,17 @@ module _ (rules : HistoryRules) (verdicts : List Verdict) (taken written : List 
         }
 
         by : (some : Bool) → nat_lt 0 (trace_above header texts).refused ≡ some
-            → SaysCertify rules (status_at_end (trace_above header texts).refused) taken written at_end
+            → SaysCertify rules (status_at_end (trace_above header texts).refused) taken written reading.at_end
         by true is =
-            subst (λ (b : Bool). SaysCertify rules (if b then statuses.Refused else Done) taken written at_end) (sym is)
-            (certified (λ refused. 1 ≤ refused) (grind (arith, nat_tests)))
+            subst (λ (b : Bool). SaysCertify rules (if b then statuses.Refused else Done) taken written reading.at_end)
+            (sym is) (certified (λ refused. 1 ≤ refused) (grind (arith, nat_tests)))
         by false is =
-            subst (λ (b : Bool). SaysCertify rules (if b then statuses.Refused else Done) taken written at_end) (sym is)
-            (certified (λ refused. refused ≡ 0) (grind (arith, nat_tests)))
+            subst (λ (b : Bool). SaysCertify rules (if b then statuses.Refused else Done) taken written reading.at_end)
+            (sym is) (certified (λ refused. refused ≡ 0) (grind (arith, nat_tests)))
 
-  says-end : (ending : Status) → Ends behavior (shown_on phased shown_nothing) ending taken written at_end
+  says-end : (ending : Status) → Ends behavior (shown_on phased shown_nothing) ending taken written reading.at_end
       → OutcomesLeadToEnd phased phased.start verdicts (lines_of taken)
-      → SaysCertify rules ending taken written at_end
+      → SaysCertify rules ending taken written reading.at_end
   says-end ending ends leads =
       let lines = lines_of taken in
       let walked = walk rules lines verdicts (UsedAtEnd phased) (Heading 1 Opening) verdicts lines (stood-first lines)
@@ -155,20 +155,20 @@ module _ (rules : HistoryRules) (verdicts : List Verdict) (taken written : List 
       walked.quiet
       ∙ ap (λ (halt : Option Status). last_words halt (last_of_way phased way)) ends.none_halts
       ∙ ap (last_of_way phased) on.way_is in
-      subst (λ (status : Status). SaysCertify rules status taken written at_end)
+      subst (λ (status : Status). SaysCertify rules status taken written reading.at_end)
       (sym (ap (way_ends phased) on.way_is) ∙ ends.ending_is)
       (at-end ends.ended ends.within on.state on.left on.stood on.asks
       (subst (shown_on phased shown_nothing) on.way_is ends.shown) prints)
 
   -- a line refuses the header
-  says-halt : (halts : Halts behavior statuses.Header taken written at_end)
-      → OutcomesLead phased phased.start verdicts halts.lines → RefusesHeader taken written at_end
+  says-halt : (halts : Halts behavior statuses.Header taken written reading)
+      → OutcomesLead phased phased.start verdicts halts.lines → RefusesHeader taken written reading.at_end
   says-halt halts leads =
       by (stop rules halts.lines verdicts (Heading 1 Opening) halts.lines statuses.Header verdicts
       (stood-first halts.lines) halts.halt_is leads)
     where
       by : StopsAs rules halts.lines statuses.Header (printed behavior behavior.start halts.lines)
-          → RefusesHeader taken written at_end
+          → RefusesHeader taken written reading.at_end
       by (by_limits halt-is nothing) = absurd cc
       by (by_header fault halt-is refused within prints) = record {
         lines = halts.lines;
@@ -181,14 +181,14 @@ module _ (rules : HistoryRules) (verdicts : List Verdict) (taken written : List 
       by (by_history n cause halt-is fault prints) = absurd cc
 
   -- a line of the history is at fault
-  says-fault : (halts : Halts behavior NotCertified taken written at_end)
-      → OutcomesLead phased phased.start verdicts halts.lines → RefusesHistory rules taken written at_end
+  says-fault : (halts : Halts behavior NotCertified taken written reading)
+      → OutcomesLead phased phased.start verdicts halts.lines → RefusesHistory rules taken written reading.at_end
   says-fault halts leads =
       by (stop rules halts.lines verdicts (Heading 1 Opening) halts.lines NotCertified verdicts
       (stood-first halts.lines) halts.halt_is leads)
     where
       by : StopsAs rules halts.lines NotCertified (printed behavior behavior.start halts.lines)
-          → RefusesHistory rules taken written at_end
+          → RefusesHistory rules taken written reading.at_end
       by (by_limits halt-is nothing) = absurd cc
       by (by_header fault halt-is refused within prints) = absurd cc
       by (by_history n cause halt-is fault prints) = record {
@@ -200,7 +200,7 @@ module _ (rules : HistoryRules) (verdicts : List Verdict) (taken written : List 
         written_is = halts.whole_output ∙ prints;
       }
 
-  limited : (halts : Halts behavior TooLong taken written at_end)
+  limited : (halts : Halts behavior TooLong taken written reading)
       → OutcomesLead phased phased.start verdicts halts.lines → written ≡ []
   limited halts leads =
       by (stop rules halts.lines verdicts (Heading 1 Opening) halts.lines TooLong verdicts
@@ -217,16 +217,16 @@ module _ (rules : HistoryRules) (verdicts : List Verdict) (taken written : List 
   quiet lines none leads =
       (walk rules lines verdicts AllUsed (Heading 1 Opening) verdicts lines (stood-first lines) none leads).quiet
 
-  pub SaysCertify-phased : (status : Status) → SaysPhased phased shown_nothing verdicts status taken written at_end
-      → SaysCertify rules status taken written at_end
+  pub SaysCertify-phased : (status : Status) → SaysPhased phased shown_nothing verdicts status taken written reading
+      → SaysCertify rules status taken written reading.at_end
   SaysCertify-phased Done says = says-end Done says.says says.made
   SaysCertify-phased Words says = absurd says.says
   SaysCertify-phased statuses.Header says = by says.says says.made
     where
-      by : (at : Halts behavior statuses.Header taken written at_end
-          ⊎ Ends behavior (shown_on phased shown_nothing) statuses.Header taken written at_end)
-          → AreMade phased shown_nothing verdicts taken written at_end statuses.Header at
-          → RefusesHeader taken written at_end
+      by : (at : Halts behavior statuses.Header taken written reading
+          ⊎ Ends behavior (shown_on phased shown_nothing) statuses.Header taken written reading.at_end)
+          → AreMade phased shown_nothing verdicts taken written reading statuses.Header at
+          → RefusesHeader taken written reading.at_end
       by (inl halts) made = says-halt halts made.0
       by (inr ends) made = says-end statuses.Header ends made
   SaysCertify-phased statuses.Refused says = says-end statuses.Refused says.says says.made
@@ -242,17 +242,17 @@ module _ (rules : HistoryRules) (verdicts : List Verdict) (taken written : List 
   SaysCertify-phased Memory says = tt
   SaysCertify-phased TooLong says = by says.says says.made
     where
-      by : (at : Halts behavior TooLong taken written at_end
-          ⊎ Oversteps behavior taken written)
-          → AreMade phased shown_nothing verdicts taken written at_end TooLong at
+      by : (at : Halts behavior TooLong taken written reading
+          ⊎ Oversteps behavior taken written reading)
+          → AreMade phased shown_nothing verdicts taken written reading TooLong at
           → written ≡ []
       by (inl halts) made = limited halts made.0
       by (inr oversteps) made = oversteps.whole_output ∙ quiet (lines_taken taken) oversteps.none_halts made.0
   SaysCertify-phased NotCertified says = by says.says says.made
     where
-      by : (at : Halts behavior NotCertified taken written at_end
-          ⊎ Ends behavior (shown_on phased shown_nothing) NotCertified taken written at_end)
-          → AreMade phased shown_nothing verdicts taken written at_end NotCertified at
-          → RefusesHistory rules taken written at_end
+      by : (at : Halts behavior NotCertified taken written reading
+          ⊎ Ends behavior (shown_on phased shown_nothing) NotCertified taken written reading.at_end)
+          → AreMade phased shown_nothing verdicts taken written reading NotCertified at
+          → RefusesHistory rules taken written reading.at_end
       by (inl halts) made = says-fault halts made.0
       by (inr ends) made = says-end NotCertified ends made

@@ -9,13 +9,16 @@ use Rattle.vms_certifying.specs.HistoryRules.{HistoryRules}
 use Rattle.vms_certifying.specs.JobStates.{shown_nothing}
 use Rattle.vms_certifying.proofs.CertifiedTexts.{SaysCertify-phased}
 
-pub SaysCertified-phased : {S K : Type 0} (rules : HistoryRules) (left : S → Option (List ℕ)) (read_faults : S → ℕ)
-    (held : K → Option (List ℕ)) (write_faults : K → ℕ) (src src' : S) (out out' : K)
+pub SaysCertified-phased : {S K : Type 0} (rules : HistoryRules) (left : S → Option (List ℕ))
+    (read_faults read_calls : S → ℕ)
+    (held : K → Option (List ℕ)) (write_faults write_calls : K → ℕ) (src src' : S) (out out' : K)
     (made made' : Option (List Verdict)) (status : Status)
-    → AnswersPhased (certifying rules) shown_nothing made made' left read_faults held write_faults src src' out out'
-    status
-    → TakesAndWrites left read_faults held write_faults src src' out out' status (SaysCertified rules)
-SaysCertified-phased rules left read_faults held write_faults src src' out out' made made' status phased =
+    → AnswersPhased (certifying rules) shown_nothing made made' left read_faults read_calls held write_faults
+    write_calls src src' out out' status
+    → TakesAndWrites left read_faults read_calls held write_faults write_calls src src' out out' status
+    (SaysCertified rules)
+SaysCertified-phased rules left read_faults read_calls held write_faults write_calls src src' out out' made made' status
+    phased =
     let answers = phased.answers in
     record {
       taken = answers.taken;

@@ -1,4 +1,4 @@
-ghost use Rattle.std.specs.Prelude.{◌≡◌, ◌<◌, ◌≤◌, ℕ, List, [], ◌∷◌, ◌++◌, IfOk, MatchOption, MatchResult, OnOk};
+ghost use Rattle.std.specs.Prelude.{◌≡◌, ◌<◌, ◌≤◌, ℕ, List, [], ◌∷◌, ◌++◌, IfOk, MatchOption, MatchResult, OnErr, OnOk};
 ghost use Rattle.std.specs.Prelude.{length};
 ghost use Rattle.vms_base.specs.Common.{IsHeader};
 ghost use Rattle.vms_base.specs.declared.headers.Header.{Header};
@@ -52,16 +52,17 @@ pub trait HistoryJudge: Drop + Sized {
         ensures { (segments : List Segment) → Gathers header.now segments self.old →
             AreSegments header.now first_start segments → Accepts header.now segments [] self.new };
 
-    /// Takes the next line, without its newline, unless it is at fault.
+    /// Takes the next line, without its newline, unless it is at fault. Nothing changes then.
     fn step(&mut self, header: &Header, line: &[u8]) -> Result<(), JudgeError>
         requires header { IsHeader header.now }
         requires stands { (segments : List Segment) × (lines : List (List ℕ))
             × Accepts header.now segments lines self.old × (length lines < 1000000) }
-        ensures { (segments : List Segment) (lines : List (List ℕ)) → Accepts header.now segments lines self.old →
+        ensures judged { (segments : List Segment) (lines : List (List ℕ)) → Accepts header.now segments lines self.old →
             MatchResult result
             (λ _. rules.Begins header.now segments (lines ++ line.now ∷ [])
             × Accepts header.now segments (lines ++ line.now ∷ []) self.new)
-            (IsJudgeError rules header.now segments lines line.now) };
+            (IsJudgeError rules header.now segments lines line.now) }
+        ensures same { OnErr result (self.new ≡ self.old) };
 
     /// How long the history is that the lines so far are, if they are a whole one.
     fn finish(&self, header: &Header) -> Option<Counted>
@@ -71,4 +72,16 @@ pub trait HistoryJudge: Drop + Sized {
         ensures { (segments : List Segment) (lines : List (List ℕ)) → Accepts header.now segments lines self.now →
             MatchOption result (IsNeverWhole rules header.now segments lines)
             (λ counted. rules.IsWhole header.now segments lines counted.phases counted.events) };
+
+    /// Appends the line that says what is due where this line is at fault, or where the input ends if there is none.
+    /// Nothing is appended where that can't be told. No clause speaks of it.
+    fn push_due(
+        &self,
+        header: &Header,
+        line: Option<&[u8]>,
+        out: &mut Vec<u8>,
+    ) -> Result<(), Memory>
+        requires header { IsHeader header.now }
+        requires stands { (segments : List Segment) × (lines : List (List ℕ))
+            × Accepts header.now segments lines self.now };
 }

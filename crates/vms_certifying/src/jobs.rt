@@ -21,6 +21,8 @@ pub(crate) struct CertifyJob<J> {
     /// The number of the line that comes next, counted from 1.
     pub(crate) line: u32,
     pub(crate) work: Work<J>,
+    /// What was due where the history is refused.
+    pub(crate) note: Vec<u8>,
 }
 
 /// What the command is at work on.
@@ -49,7 +51,13 @@ impl<J: HistoryJudge> CertifyJob<J> {
             alloc,
             line: 1,
             work: Work::Header(HeaderReader::make(alloc)),
+            note: Vec::new(alloc),
         }
+    }
+
+    /// What was due where the history is refused: nothing where none is.
+    pub(crate) fn note(&self) -> &[u8] {
+        self.note.as_slice()
     }
 
     /// Takes a line within the limit.
@@ -75,7 +83,7 @@ impl<J: HistoryJudge> CertifyJob<J> {
                     part.take_line(number, line)
                 }
             }
-            Work::Written(part) => part.take_line(verdicts, number, line, out),
+            Work::Written(part) => part.take_line(verdicts, number, line, out, &mut self.note),
             _ => self.take_header_line(number, line, out),
         }
     }
@@ -149,11 +157,12 @@ impl<J: HistoryJudge> Job for CertifyJob<J> {
                 Ok(Status::Header)
             }
             Work::Trace(_) => {
+                note_history(&mut self.note);
                 write_fault_line(out, self.line, EventCause::Incomplete)?;
                 verdicts.add(Verdict::Refused(EventCause::Incomplete))?;
                 Ok(Status::NotCertified)
             }
-            Work::Written(part) => part.end(verdicts, self.line, out),
+            Work::Written(part) => part.end(verdicts, self.line, out, &mut self.note),
             Work::Stopped => Ok(Status::Done),
         }
     }
@@ -214,5 +223,12 @@ fn ended<J: HistoryJudge>(work: Work<J>) -> Result<Work<J>, Memory>
     match work {
         Work::Trace(part) => Ok(Work::Written(part.end()?)),
         other => Ok(other),
+    }
+}
+
+/// Notes that a history is due: nothing where memory is wanting.
+fn note_history(note: &mut Vec<u8>) {
+    if note.extend_from_slice(b"due: history 1\n").is_err() {
+        note.clear();
     }
 }

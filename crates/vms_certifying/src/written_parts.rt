@@ -16,20 +16,24 @@ pub(crate) struct WrittenPart<J> {
 }
 
 impl<J: HistoryJudge> WrittenPart<J> {
-    ghost use Rattle.std.specs.Prelude.{◌≤◌, suc};
+    ghost use Rattle.std.specs.Prelude.{◌≤◌, suc, ℕ, List};
+    ghost use Rattle.vms_base.specs.Common.{IsHeader};
+    ghost use Rattle.vms_script.specs.Common.{Segment};
     ghost use Rattle.vms_stream.specs.Common.{ClosesPhased, TakesPhased};
     ghost use Rattle.vms_command.specs.Common.{most_lines};
     ghost use Rattle.vms_certifying.specs.Certifying.{certifying};
     ghost use Rattle.vms_certifying.specs.JobStates.{made_by, shown_nothing};
     ghost use Rattle.vms_certifying.specs.WrittenParts.{InSomeWritten, InWritten};
 
-    /// Takes the line of this number. One at fault stops the command, and its cause is appended.
+    /// Takes the line of this number. One at fault stops the command, and its cause is appended. What was due in its
+    /// place is noted.
     pub(crate) fn take_line(
         &mut self,
         verdicts: &mut Verdicts,
         number: u32,
         line: &[u8],
         out: &mut Vec<u8>,
+        note: &mut Vec<u8>,
     ) -> Result<Option<Status>, Memory>
         requires within { number ≤ most_lines }
         requires stands { InSomeWritten J.Accepts number self.old }
@@ -43,6 +47,7 @@ impl<J: HistoryJudge> WrittenPart<J> {
                 Ok(None)
             }
             Err(JudgeError::Fault(cause)) => {
+                self.note_due(Some(line), note);
                 write_fault_line(out, number, cause)?;
                 verdicts.add(Verdict::Refused(cause))?;
                 Ok(Some(Status::NotCertified))
@@ -51,12 +56,14 @@ impl<J: HistoryJudge> WrittenPart<J> {
         }
     }
 
-    /// Comes to the end of the input, after which this would be the number of the next line.
+    /// Comes to the end of the input, after which this would be the number of the next line. What was due there is noted
+    /// where the history isn't whole.
     pub(crate) fn end(
         &mut self,
         verdicts: &mut Verdicts,
         number: u32,
         out: &mut Vec<u8>,
+        note: &mut Vec<u8>,
     ) -> Result<Status, Memory>
         requires { InSomeWritten J.Accepts number self.old }
         ensures { ClosesPhased (certifying J.rules) (InWritten J.Accepts number self.old) shown_nothing
@@ -69,10 +76,22 @@ impl<J: HistoryJudge> WrittenPart<J> {
                 Ok(status_at_end(self.refused))
             }
             None => {
+                self.note_due(None, note);
                 write_fault_line(out, number, EventCause::Incomplete)?;
                 verdicts.add(Verdict::Refused(EventCause::Incomplete))?;
                 Ok(Status::NotCertified)
             }
+        }
+    }
+
+    /// Notes what is due where a line is at fault, or at the end of the input: nothing where memory is wanting.
+    fn note_due(&self, line: Option<&[u8]>, note: &mut Vec<u8>)
+        requires header { IsHeader self.now.header }
+        requires stands { (segments : List Segment) × (lines : List (List ℕ))
+            × J.Accepts self.now.header segments lines self.now.history }
+    {
+        if self.history.push_due(&self.header, line, note).is_err() {
+            note.clear();
         }
     }
 }

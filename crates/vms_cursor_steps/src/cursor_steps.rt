@@ -1,15 +1,14 @@
 ghost use Rattle.std.specs.Prelude.{◌≡◌, ℕ, [], ◌∷◌, false, IsTrue};
 ghost use Rattle.vms_calls.specs.Common.{History, IsHeader, State, after};
-ghost use Rattle.vms_cursors.specs.Calls.{IsReady, IsWithin, cursor_at, may_ask};
+ghost use Rattle.vms_cursors.specs.Calls.{IsWithin, cursor_at, may_ask};
 ghost use Rattle.vms_cursors.specs.Cursors.{GoesOn};
 
-use crate::rating_steps::{due_of_rating, rate_on};
+use crate::rating_steps::rate_on;
 use crate::turn_steps::turn_on;
 use vms_base::Header;
 use vms_calls::ThresholdRules;
 use vms_core::Step;
-use vms_cursors::{Cursor, TurnPosition};
-use vms_plans::DueStep;
+use vms_cursors::Cursor;
 
 /// Goes on by a step, if this is the step that is due and the call goes on by it in place: whether it went on. Where it
 /// didn't, nothing changes, and whether the step is due is left open.
@@ -55,26 +54,5 @@ pub fn go_on<R: ThresholdRules>(cursor: &mut Cursor, header: &Header, step: &Ste
         Cursor::Rates(call, at) => rate_on::<R>(at, *call, &header.layout, step),
         Cursor::Turn(turn, at) => turn_on::<R>(at, *turn, header, step),
         _ => false,
-    }
-}
-
-/// The step that is due, where no rule is asked: none where the call has ended.
-pub fn due_step<R: ThresholdRules>(cursor: &Cursor, header: &Header) -> Option<DueStep>
-    requires header { IsHeader header.now }
-    requires within { IsWithin header.now.layout cursor.now }
-    requires ready { IsReady cursor.now }
-{
-    let simple = match cursor {
-        Cursor::Change(change, at) => at.due(change, &header.layout),
-        Cursor::Snapshot(counter, at) => at.due(*counter, &header.layout),
-        Cursor::Test(zone, _, _, at) => at.due(&header.layout, *zone),
-        Cursor::Rates(_, at) => due_of_rating(at, &header.layout),
-        Cursor::Turn(_, TurnPosition::Presses(at)) => due_of_rating(at, &header.layout),
-        Cursor::Turn(_, TurnPosition::Settles(_, _, at)) => due_of_rating(at, &header.layout),
-        _ => None,
-    };
-    match simple {
-        Some(due) => Some(due),
-        None => cursor.due::<R>(header),
     }
 }

@@ -5,4 +5,4 @@ mod cursor_steps;
 mod rating_steps;
 mod turn_steps;
 
-pub use cursor_steps::{due_step, go_on};
+pub use cursor_steps::go_on;

@@ -6,11 +6,10 @@ ghost use Rattle.vms_cursors.specs.Ratings.{IsAnswered, IsPositionWithin};
 ghost use Rattle.vms_cursors.specs.StepReadings.{number_told_in, set_threshold_in, state_in};
 ghost use Rattle.vms_cursor_steps.specs.RatingSteps.{IsNextOnline, RatesOn};
 
-use vms_base::{CpuId, CpuState, Layout, PlaceId};
+use vms_base::{CpuState, Layout};
 use vms_calls::ThresholdRules;
 use vms_core::Step;
 use vms_cursors::{OnlineCpus, RatingCall, RatingPosition};
-use vms_plans::DueStep;
 
 /// Goes on by the load of a CPU's state or of what it acknowledged, or by the set of its threshold, if this is the step
 /// that is due: whether it went on. Where it didn't, nothing changes.
@@ -114,35 +113,6 @@ fn set_on(
     match *step {
         Step::SetT(of, place, t) if of.number == next && place.number == zone && t == threshold => {
             Some(next)
-        }
-        _ => None,
-    }
-}
-
-/// The step that is due, where it is one of these: none elsewhere.
-pub(crate) fn due_of_rating(at: &RatingPosition, layout: &Layout) -> Option<DueStep>
-    requires { IsLayout layout.now }
-{
-    let cpus = layout.cpus();
-    match at {
-        RatingPosition::States(_, cpu) if *cpu < cpus => {
-            Some(DueStep::LoadsState(CpuId { number: *cpu }))
-        }
-        RatingPosition::Numbers(seen, zone, from) => {
-            let number = seen.online.next(*from, cpus);
-            if number >= cpus {
-                return None;
-            }
-            let zone = PlaceId { number: *zone };
-            Some(DueStep::LoadsAcknowledged(CpuId { number }, zone))
-        }
-        RatingPosition::Thresholds(seen, zone, threshold, from) => {
-            let number = seen.online.next(*from, cpus);
-            if number >= cpus {
-                return None;
-            }
-            let zone = PlaceId { number: *zone };
-            Some(DueStep::Makes(Step::SetT(CpuId { number }, zone, *threshold)))
         }
         _ => None,
     }

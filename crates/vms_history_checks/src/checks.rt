@@ -3,9 +3,9 @@ use crate::{BoundaryAt, CheckError};
 use std::alloc::Global;
 use vms_base::{Header, Memory};
 use vms_core::State;
-use vms_phase_checks::{EventCause, LaneWalk, PhaseCheck};
+use vms_phase_checks::{DueEvent, EventCause, LaneWalk, PhaseCheck};
 use vms_script::PhaseScript;
-use vms_written_lines::{WideStep, WrittenLine, read_line};
+use vms_written_lines::{WideStep, WrittenLine, push_event_line, read_line};
 
 /// How many phases and page events a written history has.
 #[derive(Clone, Copy, Debug, PartialEq, Eq)]
@@ -117,6 +117,50 @@ impl<W: LaneWalk> HistoryCheck<W> {
         })
     }
 
+    /// Appends `due: ` and the line that is due where this line is at fault, or where the input ends if there is none: of
+    /// a caller whose pass lives the event that is due of it, else that of the first lane whose lines aren't over, else
+    /// `phase`, or `nothing` where no phase is left. Nothing is appended where a number can't be told. No clause speaks
+    /// of it.
+    pub fn push_due(
+        &self,
+        header: &Header,
+        line: Option<&[u8]>,
+        out: &mut Vec<u8>,
+    ) -> Result<(), Memory>
+        requires header { IsHeader header.now }
+        requires check { MaySay W.Stands W.pressure W.normal header.now self.now }
+    {
+        match self.due_at(header, line) {
+            DueEvent::Event(caller, step) => {
+                out.extend_from_slice(b"due: ")?;
+                push_event_line(out, caller, &step)
+            }
+            DueEvent::Nothing => {
+                out.extend_from_slice(due_after_phases(self.begun as usize == self.phases.len()))?;
+                Ok(())
+            }
+            DueEvent::Untold => Ok(()),
+        }
+    }
+
+    /// The event that is due in place of a line, or at the end of the input.
+    fn due_at(&self, header: &Header, line: Option<&[u8]>) -> DueEvent
+        requires header { IsHeader header.now }
+        requires check { MaySay W.Stands W.pressure W.normal header.now self.now }
+    {
+        let Some(phase) = &self.phase else {
+            return DueEvent::Nothing;
+        };
+        let due = match caller_of(header, line) {
+            Some(caller) => phase.due_of(header, caller),
+            None => DueEvent::Nothing,
+        };
+        match due {
+            DueEvent::Nothing => phase.first_due(header),
+            told => told,
+        }
+    }
+
     /// How many lines were taken.
     #[inline]
     pub fn lines(&self) -> u32
@@ -223,5 +267,22 @@ impl<W: LaneWalk> HistoryCheck<W> {
             crossed += 1;
         }
         crossed
+    }
+}
+
+/// The caller of the event that a line says, if it says one.
+fn caller_of(header: &Header, line: Option<&[u8]>) -> Option<u64> {
+    match read_line(&header.layout, line?) {
+        Some(WrittenLine::Event(caller, _)) => Some(caller),
+        _ => None,
+    }
+}
+
+/// What is due where no event is: a phase, or nothing where none is left.
+fn due_after_phases(have_all_begun: bool) -> &'static [u8] {
+    if have_all_begun {
+        b"due: nothing\n"
+    } else {
+        b"due: phase\n"
     }
 }

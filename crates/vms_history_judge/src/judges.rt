@@ -65,9 +65,21 @@ impl<W: LaneWalk> HistoryJudge for Judge<W> {
             None => None,
         }
     }
+
+    fn push_due(
+        &self,
+        header: &Header,
+        line: Option<&[u8]>,
+        out: &mut Vec<u8>,
+    ) -> Result<(), Memory> {
+        match &self.check {
+            Some(check) => check.push_due(header, line, out),
+            None => Ok(()),
+        }
+    }
 }
 
-ghost use Rattle.std.specs.Prelude.{◌≡◌, ◌<◌, ◌≤◌, ◌+◌, List, MatchOption, MatchResult, Some, reverse, length};
+ghost use Rattle.std.specs.Prelude.{◌≡◌, ◌<◌, ◌≤◌, ◌+◌, List, MatchOption, MatchResult, OnErr, Some, reverse, length};
 ghost use Rattle.vms_core.specs.Pages.{History};
 ghost use Rattle.vms_world.specs.Common.{IsHeader, Segment};
 ghost use Rattle.vms_written.specs.Common.{IsWrittenHistory};
@@ -94,7 +106,8 @@ fn take<W: LaneWalk>(
     requires header { IsHeader header.now }
     requires check { MaySay W.Stands W.pressure W.normal header.now check.old }
     requires few { check.old.lines < 1000000 }
-    ensures { (segments : List Segment) (hs : List History) →
+    ensures same { OnErr result (check.new ≡ check.old) }
+    ensures judged { (segments : List Segment) (hs : List History) →
         Accepts W.Stands W.pressure W.normal header.now segments hs check.old →
         MatchResult result
         (λ _. (next : List History) × (with_said (read_line header.now.layout line.now) hs ≡ Some next)

@@ -3,6 +3,7 @@ use vms_base::Header;
 use vms_core::Step;
 use vms_page_registers::PageRegisters;
 use vms_phase_checks::LaneWalk;
+use vms_plans::DueStep;
 use vms_registers::Registers;
 use vms_text::{Act, Lane};
 use vms_walks::{ExactRules, Walk, fitting_lines_are_page_acts, walks_go_along};
@@ -33,22 +34,19 @@ impl LaneWalk for LineWalk {
         }
     }
 
-    fn next(
-        &self,
+    fn go(
+        &mut self,
         header: &Header,
         registers: &Registers<PageRegisters>,
         lane: Lane,
         acts: &[Act],
         step: &Step,
-    ) -> Option<LineWalk> {
+    ) -> bool {
         fitting_lines_are_page_acts();
         walks_go_along::<ExactRules>();
         let peaks = ShownPeaks { registers };
-        let mut walk = self.walk;
-        if walk.go::<ExactRules, ShownPeaks<'_>>(header, &peaks, lane, acts, step) {
-            return Some(LineWalk { walk });
-        }
-        None
+        self.walk
+            .go::<ExactRules, ShownPeaks<'_>>(header, &peaks, lane, acts, step)
     }
 
     fn is_done(
@@ -58,10 +56,20 @@ impl LaneWalk for LineWalk {
         lane: Lane,
         acts: &[Act],
     ) -> bool {
+        self.due(header, registers, lane, acts).is_none()
+    }
+
+    fn due(
+        &self,
+        header: &Header,
+        registers: &Registers<PageRegisters>,
+        lane: Lane,
+        acts: &[Act],
+    ) -> Option<DueStep> {
         fitting_lines_are_page_acts();
         let peaks = ShownPeaks { registers };
         self.walk
-            .is_done::<ExactRules, ShownPeaks<'_>>(header, &peaks, lane, acts)
+            .due::<ExactRules, ShownPeaks<'_>>(header, &peaks, lane, acts)
     }
 
     ghost gives = { exact-gives };

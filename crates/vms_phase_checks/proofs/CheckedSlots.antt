@@ -1,9 +1,9 @@
 -- The pass in a slot, and the walk of its lane.
-use Rattle.std.proofs.Common.{◌≡◌, ◌≢◌, ℕ, ◌+◌, ◌<◌, ◌≤◌, Bool, true, List, ◌∷◌, length, get_or, Option, Some, None}
-use Rattle.std.proofs.Common.{sym, ap, subst, ◌∙◌, arith}
+use Rattle.std.proofs.Common.{◌≡◌, ◌≢◌, ℕ, ◌<◌, ◌≤◌, true, List, ◌∷◌, length, get_or, Option, Some, None, refl, sym, ap}
+use Rattle.std.proofs.Common.{subst, ◌∙◌, arith}
 use Rattle.vms_world.specs.Common.{Header, ZoneSize, State, Step, Event, Act, Item, Lane, acts_of, begun_in, facts_of}
 use Rattle.vms_world.specs.Common.{lives_in, owner_in, owner_of as owner_of_lane, pages}
-use Rattle.vms_history.proofs.Common.{caller_is_given, live_is_given, owner_in-others}
+use Rattle.vms_history.proofs.Common.{live_is_given, owner_in-others}
 use Rattle.vms_history.proofs.PassLaws.{begun_in-others}
 use Rattle.vms_core.specs.Pages.{History, IsLegal}
 use Rattle.vms_core.specs.Steps.{role}
@@ -68,6 +68,13 @@ module _ {W : Type 0} (Stands : Header → State → Lane → ℕ → List Act �
 
     pub has-walk : get_or check.walks slot None ≡ None → ⊥
     has-walk same = none-of (get_or check.walks slot None) (is.walks slot at.slot_in) same
+
+    some-of : (walk : Option W) → walk ≢ None → (w : W) × (walk ≡ Some w)
+    some-of None some = absurd (some refl)
+    some-of (Some w) some = (w, refl)
+
+    pub walk-in : (w : W) × (get_or check.walks slot None ≡ Some w)
+    walk-in = some-of (get_or check.walks slot None) has-walk
 
     owns-lane : owner_in role h p ≡ owner_of_lane (lane_in cpus slot)
     owns-lane = at.owns ∙ sym (owner_of-lane_for (owner_of cpus slot))

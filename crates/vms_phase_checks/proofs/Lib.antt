@@ -12,3 +12,4 @@ pub mod WholePhases
 pub mod Shown
 pub mod Tests
 pub mod Opened
+pub mod DueSteps

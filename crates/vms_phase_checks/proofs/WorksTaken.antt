@@ -1,5 +1,5 @@
 -- A step of a pass is taken if it is one of its lane's.
-use Rattle.std.proofs.Common.{◌≡◌, ◌≢◌, ℕ, ◌+◌, ◌≤◌, List, ◌∷◌, get_or, Option, Some, None, sym, ap, subst, ◌∙◌, arith}
+use Rattle.std.proofs.Common.{◌≡◌, ◌≢◌, ℕ, ◌+◌, List, ◌∷◌, get_or, Option, Some, None, sym, ap, subst, ◌∙◌, arith}
 use Rattle.std.proofs.Math.ListN.{set}
 use Rattle.vms_world.specs.Common.{Header, CpuId, ZoneSize, State, Step, Event, Act, Item, Lane, PageSteps, acts_of}
 use Rattle.vms_world.specs.Common.{begun_in, facts_of, owner_in}
@@ -11,8 +11,7 @@ use Rattle.vms_registers.specs.Shows.{Parts}
 use Rattle.vms_page_registers.specs.declared.registers.PageRegisters.{PageRegisters}
 use Rattle.vms_written.specs.Common.{GoesAlong}
 use Rattle.vms_phase_checks.specs.declared.checks.PhaseCheck.{PhaseCheck}
-use Rattle.vms_phase_checks.specs.Common.{Checks, GoesAlongLane, IsAloneIn, KeepsToLines, ShowsPages, Walked, WalksIn}
-use Rattle.vms_phase_checks.specs.Common.{lane_in}
+use Rattle.vms_phase_checks.specs.Common.{Checks, GoesAlongLane, IsAloneIn, KeepsToLines, ShowsPages, Walked, lane_in}
 use Rattle.vms_phase_checks.proofs.CheckedEvents.{Checks-set, StaysWithOthers, owner_of-slot, walks-stay}
 use Rattle.vms_phase_checks.proofs.CheckedSlots.{InSlot, alone-with, stands-in}
 use Rattle.vms_phase_checks.proofs.KeptEvents.{KeepsToLines-works}

@@ -1,16 +1,18 @@
 -- What the check of a phase keeps of the page events so far.
-use Rattle.std.specs.Prelude.{◌≡◌, ◌≢◌, ℕ, ◌+◌, ◌≤◌, List, [], ◌∷◌, length, slice_index_or, Option, Some, None}
+use Rattle.std.specs.Prelude.{◌≡◌, ◌≢◌, ℕ, ◌+◌, ◌≤◌, List, [], ◌∷◌, length, slice_index_or, true, Option, Some, None}
 use Rattle.vms_world.specs.Common.{Header, ZoneSize, State, Step, Act, Item, Lane, acts_of, begun_in, facts_of}
-use Rattle.vms_world.specs.Common.{owner_in}
+use Rattle.vms_world.specs.Common.{lives_in, owner_in}
 use Rattle.vms_core.specs.Pages.{History, IsLegal}
 use Rattle.vms_core.specs.Steps.{role}
+use Rattle.vms_plans.specs.Common.{Fits}
+use Rattle.vms_plans.specs.declared.due_steps.DueStep.{DueStep}
 use Rattle.vms_registers.specs.Slots.{owner_of}
 use Rattle.vms_written_lines.specs.declared.wide_steps.WideStep.{WideStep}
 use Rattle.vms_written_lines.specs.WideSteps.{step_of}
 use Rattle.vms_phase_checks.specs.declared.checks.PhaseCheck.{PhaseCheck}
 use Rattle.vms_phase_checks.specs.declared.faults.EventCause.{EventCause}
 use Rattle.vms_phase_checks.specs.declared.faults.EventCause.TheVariants.{Illegal, NotInScript}
-use Rattle.vms_phase_checks.specs.Kept.{FitsSomewhere, KeepsToLines}
+use Rattle.vms_phase_checks.specs.Kept.{FitsSomewhere, HasMadeLane, KeepsToLines}
 use Rattle.vms_phase_checks.specs.Shown.{ShowsPages}
 use Rattle.vms_phase_checks.specs.Slots.{lane_in}
 
@@ -41,6 +43,18 @@ abbrev pub MayCheck : {W : Type 0} (Stands : Header → State → Lane → ℕ �
     (pressure normal : ZoneSize → ℕ → ℕ → Type 0) → Header → PhaseCheck W → Type 0
 MayCheck Stands pressure normal header check = (s : State) × (items : List Item) × (h : History)
     × FitsSomewhere header items × Checks Stands pressure normal header s items h check
+
+-- what is told of a caller's pass: nothing is due where it has made all acts of its lane, or doesn't live, and otherwise
+-- it may go on with this step alone, up to what the step tells
+module _ (pressure normal : ZoneSize → ℕ → ℕ → Type 0) (header : Header) (s : State) (items : List Item) (h : History)
+    (caller : ℕ) where
+  abbrev pub IsDueOf : Option DueStep → Type 0
+  IsDueOf None = lives_in role h caller ≡ true
+      → HasMadeLane header pressure normal s items (owner_in role h caller) caller h
+  IsDueOf (Some due) = (lives_in role h caller ≡ true)
+      × (¬ HasMadeLane header pressure normal s items (owner_in role h caller) caller h)
+      × ((step : Step) → KeepsToLines header pressure normal s items (record { caller = caller; step = step } ∷ h)
+      → Fits due step)
 
 -- why a pass's step may not follow these events of a phase
 module _ (pressure normal : ZoneSize → ℕ → ℕ → Type 0) (header : Header) (s : State) (items : List Item) (h : History)

@@ -2,5 +2,5 @@
 pub use Rattle.vms_phase_checks.specs.Slots.{AreEmpty, AreLaneActs, HasSlot, lane_for, lane_in}
 pub use Rattle.vms_phase_checks.specs.Kept.{AreOver, FitsSomewhere, GoesAlongLane, HasMadeLane, KeepsToLines}
 pub use Rattle.vms_phase_checks.specs.Shown.{ShowsPages}
-pub use Rattle.vms_phase_checks.specs.Walks.{IsAloneIn, Walked}
-pub use Rattle.vms_phase_checks.specs.Checks.{Checks, IsEventFault, MayCheck, WalksIn}
+pub use Rattle.vms_phase_checks.specs.Walks.{IsAloneIn, IsDueIn, Walked}
+pub use Rattle.vms_phase_checks.specs.Checks.{Checks, IsDueOf, IsEventFault, MayCheck, WalksIn}

@@ -1,3 +1,4 @@
+use crate::lane_walks::LaneWalks;
 use crate::slots::{lane_for, slot_for};
 use crate::{EventCause, LaneActs, LaneWalk};
 use std::alloc::Global;
@@ -17,8 +18,8 @@ pub struct PhaseCheck<W> {
     pub(crate) registers: Registers<PageRegisters>,
     /// The acts of the phase's lines by lane.
     pub(crate) lanes: LaneActs,
-    /// By slot where the pass of the lane stands: none where none has begun.
-    pub(crate) walks: Row<Option<W>>,
+    /// The walks of the lanes whose passes have begun.
+    pub(crate) walks: LaneWalks<W>,
     /// How many events there are.
     pub(crate) events: u32,
 }
@@ -134,15 +135,15 @@ impl<W: LaneWalk> PhaseCheck<W> {
         let Some((slot, pass)) = self.registers.slot(caller) else {
             return Err(EventCause::NotInScript);
         };
-        let Some(walk) = self.walks.get(slot as usize) else {
-            return Err(EventCause::NotInScript);
-        };
         let lane = lane_for(owner_at(header.layout.cpus(), slot));
-        let Some(later) = walk.next(header, &self.registers, lane, self.lanes.at(slot), step) else {
+        let acts = self.lanes.at(slot);
+        if !self
+            .walks
+            .go(slot as usize, header, &self.registers, lane, acts, step)
+        {
             return Err(EventCause::NotInScript);
-        };
+        }
         self.registers.take(&self.facts, pass, step);
-        self.walks.set(slot as usize, Some(later));
         self.events += 1;
         Ok(())
     }
@@ -244,17 +245,17 @@ fn opened(
 }
 
 /// The acts of the lines by lane, and no walk of any lane.
-fn lanes_of<W: Copy>(
+fn lanes_of<W: LaneWalk>(
     alloc: Global,
     cpus: u32,
     items: &[Item],
-) -> Result<(LaneActs, Row<Option<W>>), Memory>
+) -> Result<(LaneActs, LaneWalks<W>), Memory>
     requires cpus { cpus ≤ 128 }
     requires slots { All (λ item. HasSlot cpus item.lane) items.now }
     ensures acts { IfOk result (λ made. AreLaneActs cpus items.now made.0) }
     ensures walks { IfOk result (λ made. made.1 ≡ replicate (cpus + 1) None) }
 {
     let lanes = LaneActs::of(alloc, cpus, items)?;
-    let walks = Row::filled(alloc, cpus as usize + 1, None)?;
+    let walks = LaneWalks::none(alloc, cpus as usize + 1)?;
     Ok((lanes, walks))
 }

@@ -3,13 +3,17 @@
 #![tactic(auto)]
 
 mod checks;
+mod due_events;
 mod faults;
 mod lane_acts;
+mod lane_walks;
 mod laws;
 mod slots;
+mod told_steps;
 mod walks;
 
 pub use checks::PhaseCheck;
+pub use due_events::DueEvent;
 pub use faults::EventCause;
 pub use lane_acts::LaneActs;
 pub use laws::{kept_phases_are_written, written_phases_keep_to_lines};

@@ -1,4 +1,4 @@
-ghost use Rattle.std.specs.Prelude.{◌≡◌, ◌≢◌, ◌≤◌, ◌↔◌, ℕ, List, [], ◌∷◌, IsTrue, MatchOption};
+ghost use Rattle.std.specs.Prelude.{◌≡◌, ◌≢◌, ◌≤◌, ◌↔◌, ℕ, false, List, [], ◌∷◌, IsTrue, MatchBool, MatchOption};
 ghost use Rattle.vms_core.specs.Pages.{History, IsLegal};
 ghost use Rattle.vms_core.specs.Steps.{role};
 ghost use Rattle.vms_world.specs.Common.{Act, Event, Header, IsHeader, Item, Lane, MakesActs, PageSteps, State, Step};
@@ -7,11 +7,12 @@ ghost use Rattle.vms_world.specs.Common.{facts_of, own};
 ghost use Rattle.vms_written.specs.Common.{GoesAlong};
 ghost use Rattle.vms_phase_checks.specs.Kept.{FitsSomewhere};
 ghost use Rattle.vms_phase_checks.specs.Shown.{ShowsPages};
-ghost use Rattle.vms_phase_checks.specs.Walks.{IsAloneIn, Walked};
+ghost use Rattle.vms_phase_checks.specs.Walks.{IsAloneIn, IsDueIn, Walked};
 
 use vms_base::Header;
 use vms_core::Step;
 use vms_page_registers::PageRegisters;
+use vms_plans::DueStep;
 use vms_registers::Registers;
 use vms_text::{Act, Lane};
 
@@ -31,28 +32,29 @@ pub trait LaneWalk: Copy {
         ensures { (header : Header) (base : State) (lane : Lane) (p : ℕ) (acts : List Act) (h : History) →
             own h p ≡ [] → Stands header base lane p acts h result };
 
-    /// The walk after a legal step of its pass: none where the pass's own events with this one don't begin the events
-    /// of its lines.
-    fn next(
-        &self,
+    /// Goes on by a legal step of its pass: whether the pass's own events with this one begin the events of its lines.
+    /// Where they don't, nothing changes.
+    fn go(
+        &mut self,
         header: &Header,
         registers: &Registers<PageRegisters>,
         lane: Lane,
         acts: &[Act],
         step: &Step,
-    ) -> Option<Self>
+    ) -> bool
         requires header { IsHeader header.now }
         requires acts { (items : List Item) × FitsSomewhere header.now items × (acts.now ≡ acts_of lane items) }
         requires stands { (base : State) × (p : ℕ) × (h : History)
             × IsAloneIn header.now base lane p (record { caller = p; step = step.now } ∷ h)
-            × ShowsPages (facts_of header.now base) h registers.now × Stands header.now base lane p acts.now h self.now }
-        ensures { (base : State) (p : ℕ) (h : History) →
+            × ShowsPages (facts_of header.now base) h registers.now × Stands header.now base lane p acts.now h self.old }
+        ensures goes { (base : State) (p : ℕ) (h : History) →
             IsAloneIn header.now base lane p (record { caller = p; step = step.now } ∷ h) →
             ShowsPages (facts_of header.now base) h registers.now →
-            Stands header.now base lane p acts.now h self.now →
-            MatchOption result (¬ GoesAlong (PageSteps header.now base pressure normal lane p) p acts.now
-            (record { caller = p; step = step.now } ∷ h))
-            (λ later. Walked Stands pressure normal header.now base lane p acts.now h step.now later) };
+            Stands header.now base lane p acts.now h self.old →
+            MatchBool result (Walked Stands pressure normal header.now base lane p acts.now h step.now self.new)
+            (¬ GoesAlong (PageSteps header.now base pressure normal lane p) p acts.now
+            (record { caller = p; step = step.now } ∷ h)) }
+        ensures same { result ≡ false → self.new ≡ self.old };
 
     /// Whether the pass has made all acts.
     fn is_done(
@@ -70,6 +72,25 @@ pub trait LaneWalk: Copy {
             ShowsPages (facts_of header.now base) h registers.now →
             Stands header.now base lane p acts.now h self.now →
             IsTrue result ↔ MakesActs (PageSteps header.now base pressure normal lane p) p acts.now h };
+
+    /// The step of its pass that is due: none where all acts are made.
+    fn due(
+        &self,
+        header: &Header,
+        registers: &Registers<PageRegisters>,
+        lane: Lane,
+        acts: &[Act],
+    ) -> Option<DueStep>
+        requires header { IsHeader header.now }
+        requires acts { (items : List Item) × FitsSomewhere header.now items × (acts.now ≡ acts_of lane items) }
+        requires stands { (base : State) × (p : ℕ) × (h : History) × IsAloneIn header.now base lane p h
+            × ShowsPages (facts_of header.now base) h registers.now × Stands header.now base lane p acts.now h self.now }
+        ensures { (base : State) (p : ℕ) (h : History) → IsAloneIn header.now base lane p h →
+            ShowsPages (facts_of header.now base) h registers.now →
+            Stands header.now base lane p acts.now h self.now →
+            MatchOption result (MakesActs (PageSteps header.now base pressure normal lane p) p acts.now h)
+            (λ due. (¬ MakesActs (PageSteps header.now base pressure normal lane p) p acts.now h)
+            × IsDueIn pressure normal header.now base lane p acts.now h due) };
 
     // the normal rule gives thresholds, and goes by the kernel's formula for valid sizes and 1 to 128 CPUs
     ghost gives: { GivesThresholds normal };

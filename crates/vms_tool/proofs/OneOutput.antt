@@ -150,22 +150,24 @@ module _ (one_phase : (header : Header) (w : World) (items : List Item) (hs hs' 
               ∙ sym other.whole_output,
         )
 
-  pub replay-once : HasOneOutput SaysReplay
-  replay-once Done Done taken written written' left left' whole whole' one other =
-      ends-same taken one.made other.made Done Done written written' (IsAtEnd left) (IsAtEnd left')
-      (one.says.says.made, one.says.says.says) (other.says.says.made, other.says.says.says)
-  replay-once Done Refused taken written written' left left' whole whole' one other =
-      ends-same taken one.made other.made Done Refused written written' (IsAtEnd left) (IsAtEnd left')
-      (one.says.says.made, one.says.says.says) (other.says.says.made, other.says.says.says)
-  replay-once Refused Done taken written written' left left' whole whole' one other =
-      ends-same taken one.made other.made Refused Done written written' (IsAtEnd left) (IsAtEnd left')
-      (one.says.says.made, one.says.says.says) (other.says.says.made, other.says.says.says)
-  replay-once Refused Refused taken written written' left left' whole whole' one other =
-      ends-same taken one.made other.made Refused Refused written written' (IsAtEnd left) (IsAtEnd left')
-      (one.says.says.made, one.says.says.says) (other.says.says.made, other.says.says.says)
-  replay-once Done _ taken written written' left left' whole whole' one other = absurd whole'
-  replay-once Refused _ taken written written' left left' whole whole' one other = absurd whole'
-  replay-once _ status' taken written written' left left' whole whole' one other = absurd whole
+  module _ {S T : Type 0} (left : S → Option (List ℕ)) (calls : S → ℕ) (left' : T → Option (List ℕ))
+      (calls' : T → ℕ) where
+    pub replay-once : HasOneOutput left calls left' calls' SaysReplay
+    replay-once Done Done taken written written' src after src' after' whole whole' one other =
+        ends-same taken one.made other.made Done Done written written' (IsAtEnd (left after)) (IsAtEnd (left' after'))
+        (one.says.says.made, one.says.says.says) (other.says.says.made, other.says.says.says)
+    replay-once Done Refused taken written written' src after src' after' whole whole' one other =
+        ends-same taken one.made other.made Done Refused written written' (IsAtEnd (left after))
+        (IsAtEnd (left' after')) (one.says.says.made, one.says.says.says) (other.says.says.made, other.says.says.says)
+    replay-once Refused Done taken written written' src after src' after' whole whole' one other =
+        ends-same taken one.made other.made Refused Done written written' (IsAtEnd (left after))
+        (IsAtEnd (left' after')) (one.says.says.made, one.says.says.says) (other.says.says.made, other.says.says.says)
+    replay-once Refused Refused taken written written' src after src' after' whole whole' one other =
+        ends-same taken one.made other.made Refused Refused written written' (IsAtEnd (left after))
+        (IsAtEnd (left' after')) (one.says.says.made, one.says.says.says) (other.says.says.made, other.says.says.says)
+    replay-once Done _ taken written written' src after src' after' whole whole' one other = absurd whole'
+    replay-once Refused _ taken written written' src after src' after' whole whole' one other = absurd whole'
+    replay-once _ status' taken written written' src after src' after' whole whole' one other = absurd whole
 
 check-ends : (ending ending' : Status) (taken written written' : List ℕ) (at_end at_end' : Type 0)
     → Ends check shown_by_check ending taken written at_end → Ends check shown_by_check ending' taken written' at_end'
@@ -173,15 +175,17 @@ check-ends : (ending ending' : Status) (taken written written' : List ℕ) (at_e
 check-ends ending ending' taken written written' at_end at_end' one other =
     (sym one.ending_is ∙ other.ending_is, one.whole_output ∙ sym other.whole_output)
 
-pub check-once : HasOneOutput (Says check shown_by_check)
-check-once Done Done taken written written' left left' whole whole' one other =
-    check-ends Done Done taken written written' (IsAtEnd left) (IsAtEnd left') one other
-check-once Done Refused taken written written' left left' whole whole' one other =
-    check-ends Done Refused taken written written' (IsAtEnd left) (IsAtEnd left') one other
-check-once Refused Done taken written written' left left' whole whole' one other =
-    check-ends Refused Done taken written written' (IsAtEnd left) (IsAtEnd left') one other
-check-once Refused Refused taken written written' left left' whole whole' one other =
-    check-ends Refused Refused taken written written' (IsAtEnd left) (IsAtEnd left') one other
-check-once Done _ taken written written' left left' whole whole' one other = absurd whole'
-check-once Refused _ taken written written' left left' whole whole' one other = absurd whole'
-check-once _ status' taken written written' left left' whole whole' one other = absurd whole
+module _ {S T : Type 0} (left : S → Option (List ℕ)) (calls : S → ℕ) (left' : T → Option (List ℕ))
+    (calls' : T → ℕ) where
+  pub check-once : HasOneOutput left calls left' calls' (Says check shown_by_check)
+  check-once Done Done taken written written' src after src' after' whole whole' one other =
+      check-ends Done Done taken written written' (IsAtEnd (left after)) (IsAtEnd (left' after')) one other
+  check-once Done Refused taken written written' src after src' after' whole whole' one other =
+      check-ends Done Refused taken written written' (IsAtEnd (left after)) (IsAtEnd (left' after')) one other
+  check-once Refused Done taken written written' src after src' after' whole whole' one other =
+      check-ends Refused Done taken written written' (IsAtEnd (left after)) (IsAtEnd (left' after')) one other
+  check-once Refused Refused taken written written' src after src' after' whole whole' one other =
+      check-ends Refused Refused taken written written' (IsAtEnd (left after)) (IsAtEnd (left' after')) one other
+  check-once Done _ taken written written' src after src' after' whole whole' one other = absurd whole'
+  check-once Refused _ taken written written' src after src' after' whole whole' one other = absurd whole'
+  check-once _ status' taken written written' src after src' after' whole whole' one other = absurd whole

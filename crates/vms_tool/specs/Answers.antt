@@ -4,13 +4,13 @@ use Rattle.std.specs.Io.KnownBytes.{Appends}
 use Rattle.vms_certify.specs.KernelRules.{kernel_rules}
 use Rattle.vms_certifying.specs.Answers.{SaysCertified}
 use Rattle.vms_check.specs.Common.{check, shown_by_check}
-use Rattle.vms_gen.specs.Common.{made_text}
+use Rattle.vms_gen.specs.Common.{Ungiven, made_text}
 use Rattle.vms_gen.specs.declared.numbers.Numbers.{Numbers}
 use Rattle.vms_groups.specs.Common.{SaysGroups}
 use Rattle.vms_record.specs.Answers.{SaysRecord}
 use Rattle.vms_replay.specs.Common.{SaysReplay, PastPhase, SaysReplayed}
-use Rattle.vms_run.specs.Common.{makes_on_threads}
-use Rattle.vms_stream.specs.Common.{TakesAndWrites, Says}
+use Rattle.vms_run.specs.Common.{makes_on_threads, reading_made}
+use Rattle.vms_stream.specs.Common.{Reading, TakesAndWrites, Says}
 use Rattle.vms_stream.specs.declared.statuses.Status.{Status}
 use Rattle.vms_stream.specs.declared.statuses.Status.TheVariants.{Words, ReadFault, WriteFault}
 use Rattle.vms_tool.specs.Naming.{command_of}
@@ -39,9 +39,9 @@ pub record SaysMade (numbers : Numbers) (made : List PastPhase) (status : Status
     : Type 0 where
   pub untaken : taken ≡ []
   pub read : List ℕ
-  pub left : List ℕ
-  pub parts : made_text numbers.seed numbers.cpus numbers.lines ≡ read ++ left
-  pub says : SaysReplayed makes_on_threads made status read written (left ≡ [])
+  pub unread : Ungiven
+  pub parts : made_text numbers.seed numbers.cpus numbers.lines ≡ read ++ unread.left
+  pub says : SaysReplayed makes_on_threads made status read written (reading_made numbers unread)
   pub reads : status ≢ ReadFault
 
 -- no phase was made on threads
@@ -51,20 +51,20 @@ no_phases = record { phases = []; groups = [] }
 -- what each status says of a command that made these phases on threads: `run` and `gen` make none of groups, `groups`
 -- none of the other tables, and every other command none. With words that name none nothing is read, and the usage line
 -- is written
-abbrev pub SaysOf : Option Command → Histories → Status → List ℕ → List ℕ → Type 0 → Type 0
-SaysOf (Some Check) made status taken written at_end =
-    (made ≡ no_phases) × Says check shown_by_check status taken written at_end
-SaysOf (Some Replay) made status taken written at_end = (made ≡ no_phases) × SaysReplay status taken written at_end
-SaysOf (Some Run) made status taken written at_end =
-    (made.groups ≡ []) × SaysReplayed makes_on_threads made.phases status taken written at_end
-SaysOf (Some (Gen numbers)) made status taken written at_end =
+abbrev pub SaysOf : Option Command → Histories → Status → List ℕ → List ℕ → Reading → Type 0
+SaysOf (Some Check) made status taken written reading =
+    (made ≡ no_phases) × Says check shown_by_check status taken written reading
+SaysOf (Some Replay) made status taken written reading = (made ≡ no_phases) × SaysReplay status taken written reading
+SaysOf (Some Run) made status taken written reading =
+    (made.groups ≡ []) × SaysReplayed makes_on_threads made.phases status taken written reading
+SaysOf (Some (Gen numbers)) made status taken written reading =
     (made.groups ≡ []) × SaysMade numbers made.phases status taken written
-SaysOf (Some Groups) made status taken written at_end =
-    (made.phases ≡ []) × SaysGroups made.groups status taken written at_end
-SaysOf (Some Record) made status taken written at_end = (made ≡ no_phases) × SaysRecord status taken written at_end
-SaysOf (Some Certify) made status taken written at_end =
-    (made ≡ no_phases) × SaysCertified kernel_rules status taken written at_end
-SaysOf None made status taken written at_end = (made ≡ no_phases) × (taken ≡ []) × ShownAs status written
+SaysOf (Some Groups) made status taken written reading =
+    (made.phases ≡ []) × SaysGroups made.groups status taken written reading
+SaysOf (Some Record) made status taken written reading = (made ≡ no_phases) × SaysRecord status taken written reading
+SaysOf (Some Certify) made status taken written reading =
+    (made ≡ no_phases) × SaysCertified kernel_rules status taken written reading
+SaysOf None made status taken written reading = (made ≡ no_phases) × (taken ≡ []) × ShownAs status written
 
 -- what the program did under these words: the phases that it made on threads are appended to the histories that stood,
 -- and its status says of them what was taken of the source, what was written to the sink, and which calls failed.
@@ -74,12 +74,13 @@ SaysOf None made status taken written at_end = (made ≡ no_phases) × (taken �
 -- present, and the sizes of what callers carry. Every answer that is printed is that history's, and one on page or
 -- percpu counters tells what was true at moments of it. Every total that `report totals` prints is the plain sum.
 pub record AnswersUnder {S K : Type 0} (words : List (List ℕ)) (old new : Histories)
-    (left : S → Option (List ℕ)) (read_faults : S → ℕ) (held : K → Option (List ℕ)) (write_faults : K → ℕ)
+    (left : S → Option (List ℕ)) (read_faults read_calls : S → ℕ) (held : K → Option (List ℕ))
+    (write_faults write_calls : K → ℕ)
     (src src' : S) (out out' : K) (status : Status) : Type 0 where
   pub made : Histories
   pub phases : new.phases ≡ old.phases ++ made.phases
   pub groups : new.groups ≡ old.groups ++ made.groups
-  pub answers : TakesAndWrites left read_faults held write_faults src src' out out' status
+  pub answers : TakesAndWrites left read_faults read_calls held write_faults write_calls src src' out out' status
       (SaysOf (command_of words) made)
 
 -- words with which nothing is read: those of `gen`, and those that name no command

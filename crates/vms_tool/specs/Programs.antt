@@ -31,10 +31,11 @@ MayLackWords (Ok args) = Unit {0}
 MayLackWords (Err error) = error_kind error ≡ OutOfMemory
 
 -- what is done under words: what their command answers, and where it reads nothing the source stays as it was
-pub record DoesUnder {S K : Type 0} (old new : Histories) (left : S → Option (List ℕ)) (read_faults : S → ℕ)
-    (held : K → Option (List ℕ)) (write_faults : K → ℕ) (src src' : S) (out out' : K) (status : Status)
+pub record DoesUnder {S K : Type 0} (old new : Histories) (left : S → Option (List ℕ)) (read_faults read_calls : S → ℕ)
+    (held : K → Option (List ℕ)) (write_faults write_calls : K → ℕ) (src src' : S) (out out' : K) (status : Status)
     (words : List (List ℕ)) : Type 0 where
-  pub answers : AnswersUnder words old new left read_faults held write_faults src src' out out' status
+  pub answers : AnswersUnder words old new left read_faults read_calls held write_faults write_calls src src' out out'
+      status
   pub unread : ReadsNothing (command_of words) → src' ≡ src
 
 -- there was no memory for the words, and nothing was done
@@ -47,11 +48,12 @@ pub record DoesNothing {S K : Type 0} (old new : Histories) (src src' : S) (out 
 
 -- what the program does with its arguments, and the code with which it ends: the one of the status
 pub record RunsProgram {S K : Type 0} (args : Arguments) (old new : Histories) (left : S → Option (List ℕ))
-    (read_faults : S → ℕ) (held : K → Option (List ℕ)) (write_faults : K → ℕ) (src src' : S) (out out' : K)
+    (read_faults read_calls : S → ℕ) (held : K → Option (List ℕ)) (write_faults write_calls : K → ℕ) (src src' : S)
+    (out out' : K)
     (code : ExitCode) : Type 0 where
   pub status : Status
   pub code_is : exit_status code ≡ code_of status
   pub does : ((words : List (String Global)) × AreWordsOf args words
-      × DoesUnder old new left read_faults held write_faults src src' out out' status
+      × DoesUnder old new left read_faults read_calls held write_faults write_calls src src' out out' status
       (map (λ word. string_bytes word) words))
       ⊎ (MayLackWords args × DoesNothing old new src src' out out' status)

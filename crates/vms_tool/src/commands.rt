@@ -19,18 +19,19 @@ const USAGE: &[u8] =
 
 /// Does what the words say: they are those after the program's name. With `run`, `gen` and `groups` the lanes of a
 /// phase run on threads, which call the gate before each line, and the histories of each phase are appended to those
-/// that stand.
-pub fn tool<R: Threads + Wait + Sync, G: Gate, S: Source, K: Sink>(
+/// that stand. With `certify` what was due where a history is refused is written to the notes: no clause speaks of it.
+pub fn tool<R: Threads + Wait + Sync, G: Gate, S: Source, K: Sink, N: Sink>(
     rt: &R,
     alloc: Global,
     words: &[String],
     src: &mut S,
     out: &mut K,
+    notes: &mut N,
     gate: &G,
     histories: &mut Histories,
 ) -> Status
     ensures answers { AnswersUnder (map (λ word. string_bytes word) words.now) histories.old histories.new S.remaining
-        S.faults K.written K.faults src.old src.new out.old out.new result }
+        S.faults S.calls K.written K.faults K.calls src.old src.new out.old out.new result }
     ensures unread { ReadsNothing (command_of (map (λ word. string_bytes word) words.now)) → src.new ≡ src.old }
 {
     match named_by(words) {
@@ -42,7 +43,7 @@ pub fn tool<R: Threads + Wait + Sync, G: Gate, S: Source, K: Sink>(
         }
         Some(Command::Groups) => tool_groups(rt, alloc, src, out, gate, &mut histories.groups),
         Some(Command::Record) => tool_record(alloc, src, out),
-        Some(Command::Certify) => tool_certify(alloc, src, out),
+        Some(Command::Certify) => tool_certify(alloc, src, out, notes),
         None => show_usage(out),
     }
 }
@@ -50,7 +51,7 @@ pub fn tool<R: Threads + Wait + Sync, G: Gate, S: Source, K: Sink>(
 /// Writes the usage line.
 fn show_usage<K: Sink>(out: &mut K) -> Status
     ensures usage { ShowsUsage (K.written out.old) (K.written out.new) result }
-    ensures writes { FaultsOfSink K.written K.faults result out.old out.new }
+    ensures writes { FaultsOfSink K.written K.faults K.calls result out.old out.new }
 {
     match write_all(out, USAGE) {
         Ok(()) => Status::Words,

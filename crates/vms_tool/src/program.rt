@@ -15,22 +15,33 @@ use vms_base::Memory;
 use vms_io::{Sink, Source};
 
 /// Runs the program with its arguments as the system gives them: does what the words after the program's name say, and
-/// gives the exit code of how that ended. Where there is no memory for the words it does nothing.
-pub fn run_program<R: Threads + Wait + Sync, G: Gate, S: Source, K: Sink>(
+/// gives the exit code of how that ended. Where there is no memory for the words it does nothing. What was due where
+/// `certify` refuses a history is written to the notes: no clause speaks of it.
+pub fn run_program<R: Threads + Wait + Sync, G: Gate, S: Source, K: Sink, N: Sink>(
     rt: &R,
     alloc: Global,
     args: io::Result<Args>,
     src: &mut S,
     out: &mut K,
+    notes: &mut N,
     gate: &G,
     histories: &mut Histories,
 ) -> ExitCode
-    ensures { RunsProgram args histories.old histories.new S.remaining S.faults K.written K.faults src.old src.new
-        out.old out.new result }
+    ensures { RunsProgram args histories.old histories.new S.remaining S.faults S.calls K.written K.faults K.calls
+        src.old src.new out.old out.new result }
 {
     match words_of(alloc, args) {
         Ok(words) => {
-            let status = tool(rt, alloc, words.as_slice(), src, out, gate, histories);
+            let status = tool(
+                rt,
+                alloc,
+                words.as_slice(),
+                src,
+                out,
+                notes,
+                gate,
+                histories,
+            );
             exit_code(status)
         }
         Err(Memory) => exit_code(Status::Memory),

@@ -49,12 +49,14 @@ pub fn run_at<R: Threads + Wait + Sync, G: Gate>(
     let mut src = MemSource::make(bytes, devices.read.max(1), fails);
     let fails = Vec::from_slice(alloc, devices.failing_writes)?;
     let mut out = MemSink::make(alloc, devices.write.max(1), fails, devices.room)?;
+    let mut notes = MemSink::make(alloc, 1, Vec::new(alloc), 0)?;
     let status = tool(
         rt,
         alloc,
         owned.as_slice(),
         &mut src,
         &mut out,
+        &mut notes,
         gate,
         histories,
     );

@@ -13,7 +13,7 @@ use Rattle.vms_written.specs.OpenPhases.GoesAlong.{between}
 use Rattle.vms_own_acts.specs.Common.{IsFunction, IsHistoryFor}
 use Rattle.vms_own_acts.proofs.Acts.{call-made}
 use Rattle.vms_own_acts.proofs.OwnRows.{acts-of_whole_row, goes_within}
-use Rattle.vms_walks.specs.Walks.{StandsAt, StandsBy}
+use Rattle.vms_walks.specs.Walks.{StandsAt, StandsBy, under_way_of}
 use Rattle.vms_walks.specs.declared.walks.Walk.{Walk}
 
 -- rules that are functions answer
@@ -50,5 +50,5 @@ module _ (header : Header) (base : State) (pressure normal : ZoneSize → ℕ �
       → StandsAt header base pressure normal lane p acts walk h
       → StandsAt header base pressure normal lane p acts walk (e ∷ h)
   stands-others walk e h other stands =
-      subst (λ mine. StandsBy header base pressure normal lane p acts walk.begun walk.under_way mine)
+      subst (λ mine. StandsBy header base pressure normal lane p acts walk.begun (under_way_of walk) mine)
       (sym (own-others e h p other)) stands

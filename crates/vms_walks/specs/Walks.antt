@@ -1,5 +1,6 @@
 -- Where a walk stands in the acts of its lane.
-use Rattle.std.specs.Prelude.{◌≡◌, ℕ, ◌≤◌, false, List, [], ◌∷◌, ◌++◌, length, take, Option, Some, None, IfSome}
+use Rattle.std.specs.Prelude.{◌≡◌, ℕ, ◌≤◌, false, if◌then◌else◌, List, [], ◌∷◌, ◌++◌, length, take, Option, Some, None}
+use Rattle.std.specs.Prelude.{IfSome}
 use Rattle.vms_core.specs.Pages.{History}
 use Rattle.vms_cursors.specs.Calls.{IsAffordable, IsCallWithin, IsReady, IsWithin, cursor_at, may_ask}
 use Rattle.vms_cursors.specs.Cursors.{IsDue}
@@ -14,6 +15,10 @@ use Rattle.vms_walks.specs.declared.walks.Walk.{Walk}
 abbrev pub IsPageAct : Shape → Lane → Act → Type 0
 IsPageAct shape lane act = IfSome (page_call lane act) (λ call. IsAffordable call × IsCallWithin shape call)
 
+-- the call under way, which may have ended: none where the pass has made no step
+abbrev pub under_way_of : Walk → Option Cursor
+under_way_of walk = if walk.has_stepped then Some walk.cursor else None
+
 module _ (header : Header) (base : State) (pressure normal : ZoneSize → ℕ → ℕ → Type 0) (lane : Lane) (p : ℕ)
     (acts : List Act) where
   -- so many of these acts have begun, the last of them with the call of this cursor; where there is none they are made.
@@ -26,7 +31,7 @@ module _ (header : Header) (base : State) (pressure normal : ZoneSize → ℕ �
 
   -- the walk stands where pass p does after a history
   abbrev pub StandsAt : Walk → History → Type 0
-  StandsAt walk h = StandsBy walk.begun walk.under_way (own h p)
+  StandsAt walk h = StandsBy walk.begun (under_way_of walk) (own h p)
 
   -- the call is the last that has begun, and its step is due
   pub record IsDueAt (call : DueCall) (mine : History) : Type 0 where
@@ -41,7 +46,7 @@ IsOfLane Control cursor = Unit {0}
 -- so many acts there are, and the call is one of the lane, on a counter, a zone or a node of the layout
 pub record IsWalkWithin (shape : Shape) (lane : Lane) (acts : List Act) (walk : Walk) : Type 0 where
   pub begun : walk.begun ≤ length acts
-  pub under_way : IfSome walk.under_way (λ cursor. IsOfLane lane cursor × IsWithin shape cursor)
+  pub under_way : IfSome (under_way_of walk) (λ cursor. IsOfLane lane cursor × IsWithin shape cursor)
 
 -- the same of a call at which no rule is asked
 pub record IsDueWithin (shape : Shape) (lane : Lane) (acts : List Act) (call : DueCall) : Type 0 where

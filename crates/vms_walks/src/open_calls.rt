@@ -56,7 +56,8 @@ impl DueCall {
         match self.cursor.next::<R>(header, step) {
             Some(cursor) => Some(Walk {
                 begun: self.begun,
-                under_way: Some(cursor),
+                has_stepped: true,
+                cursor,
             }),
             None => None,
         }

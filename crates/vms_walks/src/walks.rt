@@ -1,21 +1,20 @@
 ghost use Rattle.std.specs.Prelude.{◌≡◌, ℕ, ◌↔◌, false, List, [], ◌∷◌, All, IfSome, IsNone, IsTrue, Some};
 ghost use Rattle.vms_core.specs.Pages.{History, IsLegal};
 ghost use Rattle.vms_plans.specs.Common.{Fits};
-ghost use Rattle.vms_world.specs.Common.{Act, Header, IsHeader, Lane, Lane as LaneOf, MakesActs, PageSteps, Shape};
-ghost use Rattle.vms_world.specs.Common.{State, Step, facts_of, own};
+ghost use Rattle.vms_world.specs.Common.{Act, Header, IsHeader, Lane, MakesActs, PageSteps, Shape, State, Step};
+ghost use Rattle.vms_world.specs.Common.{facts_of, own};
 ghost use Rattle.vms_written.specs.Common.{GoesAlong};
 ghost use Rattle.vms_own_acts.specs.Common.{IsHistoryFor};
-ghost use Rattle.vms_walks.specs.Walks.{IsDueAt, IsDueWithin, IsPageAct, IsWalkWithin, StandsAt};
+ghost use Rattle.vms_walks.specs.Walks.{IsDueAt, IsDueWithin, IsPageAct, IsWalkWithin, StandsAt, under_way_of};
 
-use crate::askings::rules_asked;
 use crate::open_calls::{DueCall, due_call, next_call};
 use crate::settling::settled;
 use crate::{RuleFunctions, ZonePeaks};
-use vms_base::Header;
+use vms_base::{CounterId, Header};
 use vms_calls::ThresholdRules;
 use vms_core::Step;
-use vms_cursor_steps::{due_step, go_on};
-use vms_cursors::{Cursor, cursors_can_be_completed};
+use vms_cursor_steps::go_on;
+use vms_cursors::{Cursor, LoadPosition, cursors_can_be_completed};
 use vms_plans::{DueStep, plans_are_the_calls};
 use vms_text::{Act, Lane};
 
@@ -25,8 +24,10 @@ use vms_text::{Act, Lane};
 pub struct Walk {
     /// How many acts of the lane have begun, those that were passed over too.
     pub(crate) begun: usize,
-    /// The call of the last of them, which may have ended: none where the pass has made no step.
-    pub(crate) under_way: Option<Cursor>,
+    /// Whether the pass has made a step.
+    pub(crate) has_stepped: bool,
+    /// The call of the last act that has begun, which may have ended: any where the pass has made no step.
+    pub(crate) cursor: Cursor,
 }
 
 impl Walk {
@@ -38,57 +39,24 @@ impl Walk {
     {
         Walk {
             begun: 0,
-            under_way: None,
+            has_stepped: false,
+            cursor: Cursor::Value(CounterId { number: 0 }, LoadPosition::Begun),
         }
     }
 
-    /// The walk after a step of the lane's pass: none where the pass's own events with this one don't begin the events
-    /// of its lines.
-    pub fn next<R: RuleFunctions, K: ZonePeaks>(
-        &self,
-        header: &Header,
-        peaks: &K,
-        lane: Lane,
-        acts: &[Act],
-        step: Step,
-    ) -> Option<Walk>
-        requires header { IsHeader header.now }
-        requires acts { All (λ act. IsPageAct header.now.layout lane act) acts.now }
-        requires within { IsWalkWithin header.now.layout lane acts.now self.now }
-        requires kept { (base : State) × (h : History) × IsLegal (facts_of header.now base) h
-            × K.Keeps peaks.now (facts_of header.now base) h }
-        ensures goes { (base : State) (p : ℕ) (h : History) →
-            IsHistoryFor header.now base lane p (record { caller = p; step = step } ∷ h) →
-            K.Keeps peaks.now (facts_of header.now base) h →
-            StandsAt header.now base R.pressure R.normal lane p acts.now self.now h →
-            IfSome result (λ later. StandsAt header.now base R.pressure R.normal lane p acts.now later
-            (record { caller = p; step = step } ∷ h)) }
-        ensures stops { (base : State) (p : ℕ) (h : History) →
-            IsHistoryFor header.now base lane p (record { caller = p; step = step } ∷ h) →
-            K.Keeps peaks.now (facts_of header.now base) h →
-            StandsAt header.now base R.pressure R.normal lane p acts.now self.now h → IsNone result →
-            ¬ GoesAlong (PageSteps header.now base R.pressure R.normal lane p) p acts.now
-            (record { caller = p; step = step } ∷ h) }
-        ensures within { IfSome result (λ later. IsWalkWithin header.now.layout lane acts.now later) }
+    /// The call under way, which may have ended: none where the pass has made no step.
+    fn under_way(&self) -> Option<Cursor>
+        ensures { result ≡ under_way_of self.now }
     {
-        plans_are_the_calls::<R>();
-        match self.under_way {
-            Some(cursor) => {
-                let cursor = settled::<R, K>(cursor, header, peaks);
-                match cursor.next::<R>(header, step) {
-                    Some(later) => Some(Walk {
-                        begun: self.begun,
-                        under_way: Some(later),
-                    }),
-                    None => self.next_of_due::<R, K>(header, peaks, lane, acts, step),
-                }
-            }
-            None => self.next_of_due::<R, K>(header, peaks, lane, acts, step),
+        if self.has_stepped {
+            Some(self.cursor)
+        } else {
+            None
         }
     }
 
-    /// Goes on by a step of the lane's pass, as `next` does, in place: whether the pass's own events with this one
-    /// begin the events of its lines. Where they don't, nothing changes.
+    /// Goes on by a step of the lane's pass, in place: whether the pass's own events with this one begin the events of
+    /// its lines. Where they don't, nothing changes.
     pub fn go<R: RuleFunctions, K: ZonePeaks>(
         &mut self,
         header: &Header,
@@ -120,7 +88,7 @@ impl Walk {
         if self.go_under_way::<R>(header, lane, acts, step) {
             return true;
         }
-        match self.next::<R, K>(header, peaks, lane, acts, *step) {
+        match self.next_of_due::<R, K>(header, peaks, lane, acts, *step) {
             Some(later) => {
                 *self = later;
                 true
@@ -148,28 +116,10 @@ impl Walk {
         ensures within { IsWalkWithin header.now.layout lane acts.now self.new }
     {
         plans_are_the_calls::<R>();
-        let Some(mut cursor) = self.under_way else {
-            return false;
-        };
-        if !go_on::<R>(&mut cursor, header, step) {
+        if !self.has_stepped {
             return false;
         }
-        self.under_way = Some(cursor);
-        true
-    }
-
-    /// The step that is due in the call under way: none where no call is, where it has ended, and where it asks a rule.
-    pub fn due_under_way<R: RuleFunctions>(&self, header: &Header) -> Option<DueStep>
-        requires header { IsHeader header.now }
-        requires within { (lane : LaneOf) × (acts : List Act) × IsWalkWithin header.now.layout lane acts self.now }
-    {
-        match &self.under_way {
-            Some(cursor) => match rules_asked(cursor) {
-                Some(_) => None,
-                None => due_step::<R>(cursor, header),
-            },
-            None => None,
-        }
+        go_on::<R>(&mut self.cursor, header, step)
     }
 
     /// The call whose step is due: none where all acts are made.
@@ -195,7 +145,7 @@ impl Walk {
             MakesActs (PageSteps header.now base R.pressure R.normal lane p) p acts.now h }
         ensures within { IfSome result (λ call. IsDueWithin header.now.layout lane acts.now call) }
     {
-        match self.under_way {
+        match self.under_way() {
             Some(cursor) => {
                 let cursor = settled::<R, K>(cursor, header, peaks);
                 due_call::<R, K>(header, peaks, lane, acts, self.begun, cursor)

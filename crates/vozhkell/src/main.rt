@@ -1,4 +1,4 @@
-//! The program: hands its arguments, standard input and standard output to `run_program`, and ends with its code.
+//! The program: hands its arguments, standard input, output and error to `run_program`, and ends with its code.
 #![tactic(auto)]
 
 use std::env;
@@ -9,6 +9,7 @@ use vms_tool::{Histories, OpenGate, run_program};
 fn main(rt: HostRuntime) -> ExitCode {
     let mut src = StdSource::make(rt.stdin());
     let mut out = StdSink::make(rt.stdout());
+    let mut notes = StdSink::make(rt.stderr());
     let mut histories = Histories::make(rt.alloc());
     run_program(
         &rt,
@@ -16,6 +17,7 @@ fn main(rt: HostRuntime) -> ExitCode {
         env::args(&rt),
         &mut src,
         &mut out,
+        &mut notes,
         &OpenGate,
         &mut histories,
     )

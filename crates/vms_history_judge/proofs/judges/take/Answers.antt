@@ -12,8 +12,11 @@ use Rattle.vms_history_judge.specs.Takes.{IsSaidFault, same_error}
 use Rattle.vms_history_judge.proofs.TakenLines.{said-fault}
 use Rattle.vms_history_judge.proofs.judges.take.Goals as goal
 
-pub returns-in-Err : goal.returns-in-Err
-returns-in-Err g c = λ segments hs accepts.
+pub returns-in-Err-clause-same : goal.returns-in-Err-clause-same
+returns-in-Err-clause-same g c = (c.in-Err.ensures c.requires.check.0 c.requires.check.1 c.requires.check.2).0
+
+pub returns-in-Err-clause-judged : goal.returns-in-Err-clause-judged
+returns-in-Err-clause-judged g c = λ segments hs accepts.
     subst (λ (error : JudgeError). IsSaidFault g.W.LaneWalk.pressure g.W.LaneWalk.normal c.args.header.now segments hs
     (read_line c.args.header.now.layout c.args.line.now)
     error) (sym c.judge_error.ensures)

@@ -19,6 +19,17 @@ finish-requires-clause-stands g c =
       here.keeps.accepts,
     )
 
+pub note_due-requires-clause-header : goal.note_due-requires-clause-header
+note_due-requires-clause-header g c = c.requires.1.keeps.header
+
+pub note_due-requires-clause-stands : goal.note_due-requires-clause-stands
+note_due-requires-clause-stands g c =
+    let here = c.requires.1 in (
+      segments_in c.args.self.now.header here.first here.texts,
+      here.lines,
+      here.keeps.accepts,
+    )
+
 pub returns-in_ok-add-in-Some : goal.returns-in_ok-add-in-Some
 returns-in_ok-add-in-Some g c =
     let part = c.args.self.now in

@@ -41,7 +41,7 @@ returns-then-is_some g c s items h fits checks legal =
       second-pass g.W.LaneWalk.Stands g.W.LaneWalk.pressure g.W.LaneWalk.normal g.met.W.LaneWalk.others header s items h
           c.args.self.now checks c.requires.begins.0 c.args.who c.slot_for-slot.result c.args.step.now c.requires.begins.1
           slot_in owner-is legal
-          (λ none. given c.get.result c.is_some.result c.is_some.ensures c.if-is_some.true (sym (c.get.ensures None) ∙ none)),
+          (λ none. given c.get.result c.is_some.result c.is_some.ensures c.if-is_some.true (sym (c.get.ensures) ∙ none)),
     )
 
 pub returns : goal.returns
@@ -63,7 +63,7 @@ returns g c s items h fits checks legal =
     (lane-of_acts header items (lane_for c.args.who) (known-owner header c.args.who within)
     (λ none. some-is c.at.result.now c.is_empty.result c.is_empty.ensures c.if-is_empty.false
     (acts-is ∙ lane-is ∙ none)))
-    (c.get.ensures None ∙ missing c.get.result c.is_some.result c.is_some.ensures c.if-is_some.false)
+    (c.get.ensures ∙ missing c.get.result c.is_some.result c.is_some.ensures c.if-is_some.false)
     c.take.new.self shows c.begin.result
     (λ p none. c.begin.ensures header s (lane_in header.layout.cpus c.slot_for-slot.result) p _ _ none)
     c.set.new.self c.set.ensures

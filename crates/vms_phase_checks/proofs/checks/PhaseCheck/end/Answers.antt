@@ -23,7 +23,7 @@ returns-in_default-get g c s items h fits checks legal =
     c.args.self.now checks c.args.pass c.in-Some.slot found.0 found.1 found.2 in
     absurd (has-walk g.W.LaneWalk.Stands g.W.LaneWalk.pressure g.W.LaneWalk.normal c.args.header.now s items h
     c.args.self.now checks c.args.pass c.in-Some.slot at
-    (c.get.ensures None ∙ none-is c.get.result c.in_default-get.not-Some))
+    (c.get.ensures ∙ none-is c.get.result c.in_default-get.not-Some))
 
 pub is_done-requires-clause-stands : goal.is_done-requires-clause-stands
 is_done-requires-clause-stands g c =
@@ -49,7 +49,7 @@ is_done-requires-clause-stands g c =
       asked-stands g.W.LaneWalk.Stands g.W.LaneWalk.pressure g.W.LaneWalk.normal g.met.W.LaneWalk.others g.met.W.LaneWalk.by_own
           c.args.header.now s items h c.args.self.now checks c.args.pass slot c.args.step.now at c.requires.ends legal
           c.lane_for-lane.result c.at.result.now lane-is acts-is c.in-Some-get.walk
-          (c.get.ensures None ∙ c.in-Some-get.is),
+          (c.get.ensures ∙ c.in-Some-get.is),
     )
 
 pub returns-then-not-is_done : goal.returns-then-not-is_done
@@ -67,7 +67,7 @@ returns-then-not-is_done g c s items h fits checks legal =
     let stands = asked-stands g.W.LaneWalk.Stands g.W.LaneWalk.pressure g.W.LaneWalk.normal g.met.W.LaneWalk.others
     g.met.W.LaneWalk.by_own c.args.header.now s items h c.args.self.now checks c.args.pass slot c.args.step.now at
     c.requires.ends legal c.lane_for-lane.result c.at.result.now lane-is acts-is c.in-Some-get.walk
-    (c.get.ensures None ∙ c.in-Some-get.is) in
+    (c.get.ensures ∙ c.in-Some-get.is) in
     let done = c.is_done.ensures s c.args.pass h alone checks.shows stands in (
       refl,
       refl,
@@ -91,7 +91,7 @@ returns g c s items h fits checks legal =
     let stands = asked-stands g.W.LaneWalk.Stands g.W.LaneWalk.pressure g.W.LaneWalk.normal g.met.W.LaneWalk.others
     g.met.W.LaneWalk.by_own c.args.header.now s items h c.args.self.now checks c.args.pass slot c.args.step.now at
     c.requires.ends legal c.lane_for-lane.result c.at.result.now lane-is acts-is c.in-Some-get.walk
-    (c.get.ensures None ∙ c.in-Some-get.is) in
+    (c.get.ensures ∙ c.in-Some-get.is) in
     let done = c.is_done.ensures s c.args.pass h alone checks.shows stands in
     let shows = shown-next c.args.self.now.facts c.args.header.now s checks.facts 0 0 refl c.args.step.now
     c.args.self.now.registers c.take.new.self c.take.ensures h checks.shows legal
