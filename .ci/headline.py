@@ -77,6 +77,8 @@ LEAVES = [
      "any other is out of form.", r"vms_written_lines/"),
     ("Lines at fault", "Which line of a history is the first at fault, and for which of four causes.",
      r"vms_history_checks/|vms_phase_checks/"),
+    ("Calls of a source and a sink", "Which call of a source or a sink failed, that no call came after it, and what the "
+     "last call of a source brought.", r"vms_io/|vms_stream/Readings"),
     ("Texts that wait", "What a line prints may wait for the outcome of its phase; texts are printed in the order of "
      "their lines.", r"vms_stream/(Waiting|Orders)"),
     ("Passes", "A pass begins and ends once, owns a CPU or none, and acts while it lives; a history is complete where no "
