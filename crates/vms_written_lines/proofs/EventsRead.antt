@@ -79,7 +79,7 @@ eight-says w words each bytes =
     ap (λ n. entries n (map signed_decimal w ++ words)) (sym each) ∙ entries-say w words bytes
 
 -- the words of eight numbers, one by one
-list_words-map : (w : List ℤ) (words : List (List ℕ)) → length w ≡ 8 → list_words w words ≡ map signed_decimal w ++ words
+pub list_words-map : (w : List ℤ) (words : List (List ℕ)) → length w ≡ 8 → list_words w words ≡ map signed_decimal w ++ words
 list_words-map [] words each = absurd (omega arith)
 list_words-map (a ∷ []) words each = absurd (omega arith)
 list_words-map (a ∷ b ∷ []) words each = absurd (omega arith)

@@ -3,3 +3,4 @@ mod EightRead
 pub mod NarrowSteps
 mod LineTexts
 pub mod EventsRead
+mod EndedLines
