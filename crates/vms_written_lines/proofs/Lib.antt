@@ -1,4 +1,5 @@
 mod WordsRead
+mod FirstWords
 mod EightRead
 pub mod NarrowSteps
 mod LineTexts

@@ -14,7 +14,7 @@ pub(crate) fn number(words: &mut Words<'_>) -> Option<u64>
     ensures words { option_map (λ n. (n, words.new.words)) result ≡ first unsigned_of words.old.words }
     ensures clean { words.new.clean ≡ words.old.clean }
 {
-    read_unsigned(words.next()?)
+    unsigned_of(words.next()?)
 }
 
 /// A signed number of 64 bits.
@@ -23,7 +23,7 @@ pub(crate) fn amount(words: &mut Words<'_>) -> Option<i64>
     ensures words { option_map (λ z. (z, words.new.words)) result ≡ first signed_of words.old.words }
     ensures clean { words.new.clean ≡ words.old.clean }
 {
-    read_signed(words.next()?)
+    signed_of(words.next()?)
 }
 
 /// Eight signed numbers.
@@ -115,7 +115,7 @@ pub(crate) fn number_if_any(words: &mut Words<'_>) -> Option<Option<u64>>
 {
     match words.next()? {
         b"-" => Some(None),
-        word => Some(Some(read_unsigned(word)?)),
+        word => Some(Some(unsigned_of(word)?)),
     }
 }
 
@@ -144,10 +144,32 @@ fn cpu_of(layout: &Layout, word: &[u8]) -> Option<CpuId>
 fn number_below(count: u32, word: &[u8]) -> Option<u32>
     ensures { result ≡ number_below count word.now }
 {
-    let number = read_unsigned(word)?;
+    let number = unsigned_of(word)?;
     if number < u64::from(count) {
         Some(number as u32)
     } else {
         None
+    }
+}
+
+/// The unsigned number of 64 bits that a word spells.
+#[inline]
+pub(crate) fn unsigned_of(word: &[u8]) -> Option<u64>
+    ensures { result ≡ unsigned_of word.now }
+{
+    match word {
+        [digit @ b'0'..=b'9'] => Some(u64::from(*digit - b'0')),
+        _ => read_unsigned(word),
+    }
+}
+
+/// The signed number of 64 bits that a word spells.
+#[inline]
+fn signed_of(word: &[u8]) -> Option<i64>
+    ensures { result ≡ signed_of word.now }
+{
+    match word {
+        [digit @ b'0'..=b'9'] => Some(i64::from(*digit - b'0')),
+        _ => read_signed(word),
     }
 }

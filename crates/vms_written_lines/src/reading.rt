@@ -1,16 +1,17 @@
 ghost use Rattle.std.specs.Prelude.{◌≡◌, option_map};
+ghost use Rattle.vms_text.specs.Common.{is_ignored};
 ghost use Rattle.vms_written_lines.specs.Forms.{form_of, read_arguments, read_step};
 ghost use Rattle.vms_written_lines.specs.Lines.{read_line, read_said};
 
 use crate::arguments::{
     amount, counter, cpu, cpu_if_any, cpu_state, eight, group, item, mode, number, number_if_any,
-    place,
+    place, unsigned_of,
 };
 use crate::step_names::{StepName, step_named};
 use crate::words::Words;
 use crate::{WideStep, WrittenLine};
 use vms_base::Layout;
-use vms_text::{is_ignored, read_unsigned};
+use vms_text::is_ignored;
 
 /// The most bytes of a line.
 const MOST_LINE: usize = 200;
@@ -22,12 +23,23 @@ pub fn read_line(layout: &Layout, line: &[u8]) -> Option<WrittenLine>
     if line.len() > MOST_LINE {
         return None;
     }
-    if is_ignored(line) {
+    if is_blank(line) {
         return Some(WrittenLine::Blank);
     }
     let mut words = Words::of(line);
     let said = read_said(&mut words, layout)?;
     if words.are_read() { Some(said) } else { None }
+}
+
+/// Whether a line is ignored. Most lines begin with a digit, and none of these is.
+#[inline]
+fn is_blank(line: &[u8]) -> bool
+    ensures { result ≡ is_ignored line.now }
+{
+    match line {
+        [b'0'..=b'9', ..] => false,
+        _ => is_ignored(line),
+    }
 }
 
 /// What the first words of a line say: `phase`, or a caller and its step.
@@ -38,7 +50,7 @@ fn read_said(words: &mut Words<'_>, layout: &Layout) -> Option<WrittenLine>
     match words.next()? {
         b"phase" => Some(WrittenLine::Phase),
         word => {
-            let caller = read_unsigned(word)?;
+            let caller = unsigned_of(word)?;
             let step = read_step(words, layout)?;
             Some(WrittenLine::Event(caller, step))
         }

@@ -1,5 +1,6 @@
-ghost use Rattle.std.specs.Prelude.{◌≡◌, [], ◌∷◌, ◌&&◌, MatchOption};
-ghost use Rattle.vms_text.specs.Common.{is_clean, words_of};
+ghost use Rattle.std.specs.Prelude.{◌≡◌, [], ◌∷◌, ◌&&◌, MatchOption, not, position};
+ghost use Rattle.std.specs.List.{position_or_len};
+ghost use Rattle.vms_text.specs.Common.{is_clean, is_word_byte, words_of};
 ghost use Rattle.vms_written_lines.specs.Words.{are_none};
 
 use std::marker::Model;
@@ -35,8 +36,41 @@ impl<'a> Words<'a> {
     }
 
     /// The next word.
-    #[inline]
+    #[inline(always)]
     pub(crate) fn next(&mut self) -> Option<&'a [u8]>
+        ensures words { MatchOption result (self.old.words ≡ [])
+            (λ word. self.old.words ≡ word.now ∷ self.new.words) }
+        ensures clean { self.new.clean ≡ self.old.clean }
+    {
+        match self.rest {
+            [first, rest @ ..] if first.is_ascii_graphic() && matches!(rest, [] | [b' ', ..]) => {
+                let word = &self.rest[..1];
+                self.rest = without_space(rest);
+                Some(word)
+            }
+            _ => self.next_of_any_length(),
+        }
+    }
+
+    /// The next word, which mostly has more than one byte.
+    #[inline(never)]
+    fn next_of_any_length(&mut self) -> Option<&'a [u8]>
+        ensures words { MatchOption result (self.old.words ≡ [])
+            (λ word. self.old.words ≡ word.now ∷ self.new.words) }
+        ensures clean { self.new.clean ≡ self.old.clean }
+    {
+        let end = word_length(self.rest);
+        if end == 0 {
+            return self.next_after_others();
+        }
+        let word = &self.rest[..end];
+        self.rest = without_space(&self.rest[end..]);
+        Some(word)
+    }
+
+    /// The next word, whatever stands before it.
+    #[inline(never)]
+    fn next_after_others(&mut self) -> Option<&'a [u8]>
         ensures words { MatchOption result (self.old.words ≡ [])
             (λ word. self.old.words ≡ word.now ∷ self.new.words) }
         ensures clean { self.new.clean ≡ self.old.clean }
@@ -53,6 +87,37 @@ impl<'a> Words<'a> {
     pub(crate) fn are_read(&self) -> bool
         ensures { result ≡ (self.now.clean && are_none self.now.words) }
     {
-        self.clean && is_clean(self.rest) && next_word(self.rest, 0).is_none()
+        self.clean
+            && (self.rest.is_empty() || is_clean(self.rest) && next_word(self.rest, 0).is_none())
     }
+}
+
+/// The bytes without the space that they begin with, if they do.
+#[inline]
+fn without_space(bytes: &[u8]) -> &[u8]
+    ensures words { words_of result.now ≡ words_of bytes.now }
+    ensures clean { is_clean result.now ≡ is_clean bytes.now }
+{
+    match bytes {
+        [b' ', rest @ ..] => rest,
+        _ => bytes,
+    }
+}
+
+/// The bytes before the first byte that isn't one of a word, or all.
+#[inline]
+fn word_length(bytes: &[u8]) -> usize
+    ensures { result ≡ position_or_len (λ byte. not (is_word_byte byte)) bytes.now }
+{
+    match first_other(bytes) {
+        Some(end) => end,
+        None => bytes.len(),
+    }
+}
+
+#[inline]
+fn first_other(bytes: &[u8]) -> Option<usize>
+    ensures { result ≡ position (λ byte. not (is_word_byte byte)) bytes.now }
+{
+    bytes.iter().position(|byte| !byte.is_ascii_graphic())
 }

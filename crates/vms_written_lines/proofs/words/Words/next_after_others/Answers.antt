@@ -2,7 +2,7 @@
 use Rattle.std.proofs.Common.{ap}
 use Rattle.vms_written_lines.specs.Words.{WordsLeft}
 use Rattle.vms_written_lines.proofs.WordsRead.{is_clean-next}
-use Rattle.vms_written_lines.proofs.words.Words.next.Goals as goal
+use Rattle.vms_written_lines.proofs.words.Words.next_after_others.Goals as goal
 
 pub returns-clause-clean : goal.returns-clause-clean
 returns-clause-clean c =
