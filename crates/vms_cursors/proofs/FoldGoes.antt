@@ -1,4 +1,4 @@
--- How a fold goes on from each position.
+-- For other crates too: how a fold goes on from each position.
 use Rattle.std.proofs.Common.{◌≡◌, ◌≢◌, ℕ, suc, zero, ◌+◌, ◌-◌, ◌*◌, ◌/◌, ◌<◌, ◌≤◌, ◌+ℤ◌, ℤ, pos, negsuc, Bool, true}
 use Rattle.std.proofs.Common.{false, List, [], ◌∷◌, ◌++◌, length, drop, add-one, refl, sym, ap, subst, ◌∙◌, arith}
 use Rattle.std.proofs.Common.{drop-cons}

@@ -1,4 +1,4 @@
--- How many places and groups a layout has.
+-- For other crates too: how many places and groups a layout has.
 use Rattle.std.proofs.Common.{◌≡◌, ℕ, ◌+◌, ◌*◌, ◌/◌, ◌<◌, ◌≤◌, ap, arith, ⊎_elim}
 use Rattle.vms_calls.specs.Common.{IsLayout, Shape, place_count}
 use Rattle.vms_base.proofs.Common.{place_count-most}

@@ -69,6 +69,7 @@ impl ChangePosition {
     }
 
     /// The position after a step: none where the step isn't the one that is due.
+    #[inline(always)]
     pub fn next(self, change: &Change, layout: &Layout, step: Step) -> Option<ChangePosition>
         requires { IsCounter layout.now change.now.counter.number }
         ensures goes { IfSome result

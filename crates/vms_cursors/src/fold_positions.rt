@@ -1,5 +1,5 @@
 ghost use Rattle.std.specs.Prelude.{◌≡◌, ◌≢◌, ℕ, ◌+◌, ◌-◌, ◌*◌, ◌/◌, ◌<◌, ◌≤◌, [], IfSome, IsNone, Some, drop, pos};
-ghost use Rattle.std.specs.Prelude.{slice_index_or};
+ghost use Rattle.std.specs.Prelude.{length, slice_index_or};
 ghost use Rattle.vms_calls.specs.Common.{IsLayout, acknowledges, first_of_group, in_turn, item_count, place_count};
 ghost use Rattle.vms_calls.specs.Common.{to_place};
 ghost use Rattle.vms_cursors.specs.Cursors.{GoesOn, IsDue, HasEnded, Stops};
@@ -72,11 +72,12 @@ impl FoldPosition {
 }
 
 /// The first entry from this one on that isn't 0: 8 where there is none.
-fn some_entry(list: &Diffs, from: u32) -> u32
+pub fn some_entry(list: &Diffs, from: u32) -> u32
     ensures same { (k : ℕ) → in_turn to_place (k + from) (drop from list.now.values)
         ≡ in_turn to_place (k + result) (drop result list.now.values) }
     ensures some { result < 8 → slice_index_or list.now.values result (pos 0) ≢ pos 0 }
     ensures most { result ≤ 8 }
+    ensures whole { length list.now.values ≡ 8 }
 {
     for n in from..8 {
         if list.values[n as usize] != 0 {
@@ -87,7 +88,7 @@ fn some_entry(list: &Diffs, from: u32) -> u32
 }
 
 /// The first item from this one on for which something was taken: the number of items where there is none.
-fn some_item(taken: &Taken, from: u32, layout: &Layout) -> u32
+pub fn some_item(taken: &Taken, from: u32, layout: &Layout) -> u32
     ensures same { items_left layout.now taken.now [] from (item_count layout.now - from)
         ≡ items_left layout.now taken.now [] result (item_count layout.now - result) }
     ensures some { result < item_count layout.now → total_at taken.now.totals result ≢ pos 0 }
@@ -164,7 +165,7 @@ fn due_group(
 }
 
 /// How many groups the places up to this one have.
-fn groups_through(layout: &Layout, place: u32) -> u32
+pub fn groups_through(layout: &Layout, place: u32) -> u32
     requires layout { IsLayout layout.now }
     requires place { place < place_count layout.now }
     ensures { result ≡ layout.now.positions / 8 * (place + 1) }
@@ -173,7 +174,7 @@ fn groups_through(layout: &Layout, place: u32) -> u32
 }
 
 /// Whether the threshold of a place is loaded and acknowledged.
-fn is_acknowledged(fold: Fold, layout: &Layout, place: u32) -> bool
+pub fn is_acknowledged(fold: Fold, layout: &Layout, place: u32) -> bool
     ensures { result ≡ acknowledges layout.now fold.is_own place }
 {
     fold.is_own && (place as usize) < layout.zones().len()

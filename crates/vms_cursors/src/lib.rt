@@ -34,7 +34,7 @@ pub use burial_positions::BurialPosition;
 pub use change_positions::ChangePosition;
 pub use changes::Change;
 pub use cursors::Cursor;
-pub use fold_positions::FoldPosition;
+pub use fold_positions::{FoldPosition, groups_through, is_acknowledged, some_entry, some_item};
 pub use folds::Fold;
 pub use laws::cursors_can_be_completed;
 pub use load_positions::LoadPosition;

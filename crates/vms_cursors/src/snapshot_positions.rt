@@ -40,6 +40,7 @@ impl SnapshotPosition {
     }
 
     /// The position after a step: none where the step isn't the one that is due.
+    #[inline(always)]
     pub fn next(self, counter: CounterId, layout: &Layout, step: Step) -> Option<SnapshotPosition>
         requires { IsCounter layout.now counter.number }
         ensures goes { IfSome result

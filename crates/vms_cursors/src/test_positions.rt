@@ -47,6 +47,7 @@ impl TestPosition {
     }
 
     /// The position after a step: none where the step isn't the one that is due.
+    #[inline(always)]
     pub fn next(self, layout: &Layout, zone: PlaceId, step: Step) -> Option<TestPosition>
         requires layout { IsLayout layout.now }
         requires zone { IsZone layout.now zone.number }
