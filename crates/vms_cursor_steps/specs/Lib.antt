@@ -1,1 +1,2 @@
+pub mod FoldSteps
 pub mod RatingSteps

@@ -2,6 +2,8 @@
 #![tactic(auto)]
 
 mod cursor_steps;
+mod fold_steps;
+mod look_steps;
 mod rating_steps;
 mod turn_steps;
 

@@ -11,7 +11,7 @@ use Rattle.vms_cursors.proofs.RatingGoes.{known-due, known-goes, numbers-due, nu
 use Rattle.vms_cursors.proofs.RatingGoes.{states-goes, threshold-is, thresholds-same}
 use Rattle.vms_cursors.proofs.StepReadings.{set_threshold-read}
 use Rattle.vms_cursor_steps.specs.RatingSteps.{RatesOn}
-use Rattle.vms_cursor_steps.proofs.rating_steps.rate_on.Goals as goal
+use Rattle.vms_cursor_steps.proofs.rating_steps.cpu_on.Goals as goal
 
 pub returns-in-Some-clause-goes : goal.returns-in-Some-clause-goes
 returns-in-Some-clause-goes g c = λ yes.
