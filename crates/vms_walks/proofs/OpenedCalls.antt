@@ -1,8 +1,8 @@
 -- The call whose step is due.
 use Rattle.std.proofs.Common.{◌≡◌, ℕ, ◌+◌, ◌<◌, ◌≤◌, List, [], ◌∷◌, ◌++◌, length, take, sym, ap, subst, ◌∙◌, add-one}
-use Rattle.std.proofs.Common.{arith, pos}
+use Rattle.std.proofs.Common.{Bool, true, false, if◌then◌else◌, refl, arith, pos}
 use Rattle.std.proofs.Math.Seq.{take-suc}
-use Rattle.std.specs.Prelude.{Some}
+use Rattle.std.specs.Prelude.{None, Some}
 use Rattle.vms_core.specs.Pages.{History}
 use Rattle.vms_calls.specs.declared.page_calls.PageAnswer.{PageAnswer}
 use Rattle.vms_calls.specs.declared.page_calls.PageCall.{PageCall}
@@ -78,3 +78,11 @@ module _ (header : Header) (base : State) (pressure normal : ZoneSize → ℕ �
       (way-ended header base pressure normal lane p stands.0 stands.1
       (cursor_at header base p pressure normal mine cursor)
       mine told stands.3 run)
+
+  -- so are all acts that have begun where the last call has ended, if there is one
+  pub row-between : (begun : ℕ) (has_stepped : Bool) (cursor : Cursor) (mine : History) (told : PageAnswer)
+      → (has_stepped ≡ true → Runs (cursor_at header base p pressure normal mine cursor) [] told)
+      → StandsBy header base pressure normal lane p acts begun (if has_stepped then Some cursor else None) mine
+      → Row (take begun acts) mine
+  row-between begun true cursor mine told ended stands = row-ended begun cursor mine told stands (ended refl)
+  row-between begun false cursor mine told ended stands = stands

@@ -4,6 +4,7 @@
 
 mod askings;
 mod calling;
+mod ended_calls;
 mod hidden_pages;
 mod laws;
 mod open_calls;

@@ -7,7 +7,7 @@ ghost use Rattle.vms_own_acts.specs.Common.{IsHistoryFor, MakesInRow};
 ghost use Rattle.vms_walks.specs.Walks.{IsDueAt, IsDueWithin, IsOfLane, IsPageAct, IsWalkWithin, StandsAt, StandsBy};
 
 use crate::calling::{begin_call, calling};
-use crate::settling::settled;
+use crate::settling::settle;
 use crate::{RuleFunctions, Walk, ZonePeaks};
 use vms_base::Header;
 use vms_core::Step;
@@ -90,7 +90,8 @@ pub(crate) fn next_call<R: RuleFunctions, K: ZonePeaks>(
     plans_are_the_calls::<R>();
     match calling(lane, acts, from) {
         Some((at, call)) => {
-            let cursor = settled::<R, K>(begin_call::<R>(lane, call), header, peaks);
+            let mut cursor = begin_call::<R>(lane, call);
+            settle::<R, K>(&mut cursor, header, peaks);
             match cursor.due::<R>(header) {
                 Some(due) => Some(DueCall {
                     begun: at + 1,

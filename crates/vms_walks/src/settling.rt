@@ -14,49 +14,49 @@ use crate::{RuleFunctions, ZonePeaks};
 use vms_base::{Header, PlaceId};
 use vms_cursors::Cursor;
 
-/// The same cursor after the rules answered, if they are asked.
-pub(crate) fn settled<R: RuleFunctions, K: ZonePeaks>(
-    cursor: Cursor,
+/// Makes a cursor the same one after the rules answered, if they are asked.
+pub(crate) fn settle<R: RuleFunctions, K: ZonePeaks>(
+    cursor: &mut Cursor,
     header: &Header,
     peaks: &K,
-) -> Cursor
+)
     requires header { IsHeader header.now }
-    requires within { IsWithin header.now.layout cursor }
+    requires within { IsWithin header.now.layout cursor.old }
     requires kept { (base : State) × (h : History) × IsLegal (facts_of header.now base) h
         × K.Keeps peaks.now (facts_of header.now base) h }
     ensures same { (base : State) (lane : Lane) (p : ℕ) (h : History) → IsHistoryFor header.now base lane p h →
-        K.Keeps peaks.now (facts_of header.now base) h → IsOfLane lane cursor →
-        IsSame (cursor_at header.now base p R.pressure R.normal (own h p) cursor)
-        (cursor_at header.now base p R.pressure R.normal (own h p) result) }
-    ensures ready { IsReady result }
-    ensures within { IsWithin header.now.layout result }
-    ensures of_lane { (lane : Lane) → IsOfLane lane cursor → IsOfLane lane result }
+        K.Keeps peaks.now (facts_of header.now base) h → IsOfLane lane cursor.old →
+        IsSame (cursor_at header.now base p R.pressure R.normal (own h p) cursor.old)
+        (cursor_at header.now base p R.pressure R.normal (own h p) cursor.new) }
+    ensures ready { IsReady cursor.new }
+    ensures within { IsWithin header.now.layout cursor.new }
+    ensures of_lane { (lane : Lane) → IsOfLane lane cursor.old → IsOfLane lane cursor.new }
 {
-    match rules_asked(&cursor) {
-        Some(asking) => answered::<R, K>(cursor, asking, header, peaks),
-        None => cursor,
+    match rules_asked(cursor) {
+        Some(asking) => *cursor = answered::<R, K>(cursor, asking, header, peaks),
+        None => {}
     }
 }
 
 /// The same cursor of a control pass once the rules answered.
 fn answered<R: RuleFunctions, K: ZonePeaks>(
-    cursor: Cursor,
+    cursor: &Cursor,
     asking: Asking,
     header: &Header,
     peaks: &K,
 ) -> Cursor
     requires header { IsHeader header.now }
-    requires within { IsWithin header.now.layout cursor }
-    requires asked { asking_of cursor ≡ Some asking }
+    requires within { IsWithin header.now.layout cursor.now }
+    requires asked { asking_of cursor.now ≡ Some asking }
     requires kept { (base : State) × (h : History) × IsLegal (facts_of header.now base) h
         × K.Keeps peaks.now (facts_of header.now base) h }
     ensures same { (base : State) (p : ℕ) (h : History) → IsHistoryFor header.now base Control p h →
         K.Keeps peaks.now (facts_of header.now base) h →
-        IsSame (cursor_at header.now base p R.pressure R.normal (own h p) cursor)
+        IsSame (cursor_at header.now base p R.pressure R.normal (own h p) cursor.now)
         (cursor_at header.now base p R.pressure R.normal (own h p) result) }
     ensures ready { IsReady result }
     ensures within { IsWithin header.now.layout result }
-    ensures of_lane { (lane : Lane) → IsOfLane lane cursor → IsOfLane lane result }
+    ensures of_lane { (lane : Lane) → IsOfLane lane cursor.now → IsOfLane lane result }
 {
     let size = header.sizes.get(asking.zone as usize);
     let zone = PlaceId {

@@ -1,14 +1,16 @@
-ghost use Rattle.std.specs.Prelude.{◌≡◌, ℕ, ◌↔◌, false, List, [], ◌∷◌, All, IfSome, IsNone, IsTrue, Some};
+ghost use Rattle.std.specs.Prelude.{◌≡◌, ℕ, ◌↔◌, false, List, [], ◌∷◌, All, IfSome, IsNone, IsTrue, Some, take};
 ghost use Rattle.vms_core.specs.Pages.{History, IsLegal};
 ghost use Rattle.vms_plans.specs.Common.{Fits};
 ghost use Rattle.vms_world.specs.Common.{Act, Header, IsHeader, Lane, MakesActs, PageSteps, Shape, State, Step};
 ghost use Rattle.vms_world.specs.Common.{facts_of, own};
 ghost use Rattle.vms_written.specs.Common.{GoesAlong};
-ghost use Rattle.vms_own_acts.specs.Common.{IsHistoryFor};
+ghost use Rattle.vms_own_acts.specs.Common.{IsHistoryFor, MakesInRow};
 ghost use Rattle.vms_walks.specs.Walks.{IsDueAt, IsDueWithin, IsPageAct, IsWalkWithin, StandsAt, under_way_of};
 
+use crate::calling::{begin_call, calling};
+use crate::ended_calls::has_ended;
 use crate::open_calls::{DueCall, due_call, next_call};
-use crate::settling::settled;
+use crate::settling::settle;
 use crate::{RuleFunctions, ZonePeaks};
 use vms_base::{CounterId, Header};
 use vms_calls::ThresholdRules;
@@ -88,6 +90,12 @@ impl Walk {
         if self.go_under_way::<R>(header, lane, acts, step) {
             return true;
         }
+        if self.go_to_next::<R>(header, lane, acts, step) {
+            return true;
+        }
+        if self.go_settled::<R, K>(header, peaks, lane, acts, step) {
+            return true;
+        }
         match self.next_of_due::<R, K>(header, peaks, lane, acts, *step) {
             Some(later) => {
                 *self = later;
@@ -122,6 +130,92 @@ impl Walk {
         go_on::<R>(&mut self.cursor, header, step)
     }
 
+    /// Goes on by the first step of the next call, where the acts that have begun are surely made and it does so in
+    /// place: whether it went on. Where it didn't, nothing changes.
+    fn go_to_next<R: RuleFunctions>(
+        &mut self,
+        header: &Header,
+        lane: Lane,
+        acts: &[Act],
+        step: &Step,
+    ) -> bool
+        requires header { IsHeader header.now }
+        requires acts { All (λ act. IsPageAct header.now.layout lane act) acts.now }
+        requires within { IsWalkWithin header.now.layout lane acts.now self.old }
+        ensures goes { IsTrue result → (base : State) (p : ℕ) (h : History) →
+            StandsAt header.now base R.pressure R.normal lane p acts.now self.old h →
+            StandsAt header.now base R.pressure R.normal lane p acts.now self.new
+            (record { caller = p; step = step.now } ∷ h) }
+        ensures same { result ≡ false → self.new ≡ self.old }
+        ensures within { IsWalkWithin header.now.layout lane acts.now self.new }
+    {
+        plans_are_the_calls::<R>();
+        if !self.is_between_calls::<R>(header) {
+            return false;
+        }
+        let Some((at, call)) = calling(lane, acts, self.begun) else {
+            return false;
+        };
+        let mut cursor = begin_call::<R>(lane, call);
+        if !go_on::<R>(&mut cursor, header, step) {
+            return false;
+        }
+        self.begun = at + 1;
+        self.has_stepped = true;
+        self.cursor = cursor;
+        true
+    }
+
+    /// Whether the acts that have begun are surely made: no step was made, or the call under way has surely ended.
+    fn is_between_calls<R: RuleFunctions>(&self, header: &Header) -> bool
+        requires header { IsHeader header.now }
+        requires within { (lane : Lane) × (acts : List Act) × IsWalkWithin header.now.layout lane acts self.now }
+        ensures { IsTrue result → (base : State) (lane : Lane) (p : ℕ) (acts : List Act) (h : History) →
+            StandsAt header.now base R.pressure R.normal lane p acts self.now h →
+            MakesInRow (PageSteps header.now base R.pressure R.normal lane p) p (take self.now.begun acts) []
+            (own h p) }
+    {
+        !self.has_stepped || has_ended::<R>(&self.cursor, header)
+    }
+
+    /// Goes on by a step of the call under way once the rules have answered, if they are asked: whether it went on.
+    /// Where it didn't, nothing changes.
+    fn go_settled<R: RuleFunctions, K: ZonePeaks>(
+        &mut self,
+        header: &Header,
+        peaks: &K,
+        lane: Lane,
+        acts: &[Act],
+        step: &Step,
+    ) -> bool
+        requires header { IsHeader header.now }
+        requires within { IsWalkWithin header.now.layout lane acts.now self.old }
+        requires kept { (base : State) × (h : History) × IsLegal (facts_of header.now base) h
+            × K.Keeps peaks.now (facts_of header.now base) h }
+        ensures goes { IsTrue result → (base : State) (p : ℕ) (h : History) →
+            IsHistoryFor header.now base lane p (record { caller = p; step = step.now } ∷ h) →
+            K.Keeps peaks.now (facts_of header.now base) h →
+            StandsAt header.now base R.pressure R.normal lane p acts.now self.old h →
+            StandsAt header.now base R.pressure R.normal lane p acts.now self.new
+            (record { caller = p; step = step.now } ∷ h) }
+        ensures same { result ≡ false → self.new ≡ self.old }
+        ensures within { IsWalkWithin header.now.layout lane acts.now self.new }
+    {
+        plans_are_the_calls::<R>();
+        if !self.has_stepped {
+            return false;
+        }
+        let mut cursor = self.cursor;
+        settle::<R, K>(&mut cursor, header, peaks);
+        match cursor.next::<R>(header, *step) {
+            Some(later) => {
+                self.cursor = later;
+                true
+            }
+            None => false,
+        }
+    }
+
     /// The call whose step is due: none where all acts are made.
     pub fn due_call<R: RuleFunctions, K: ZonePeaks>(
         &self,
@@ -146,8 +240,8 @@ impl Walk {
         ensures within { IfSome result (λ call. IsDueWithin header.now.layout lane acts.now call) }
     {
         match self.under_way() {
-            Some(cursor) => {
-                let cursor = settled::<R, K>(cursor, header, peaks);
+            Some(mut cursor) => {
+                settle::<R, K>(&mut cursor, header, peaks);
                 due_call::<R, K>(header, peaks, lane, acts, self.begun, cursor)
             }
             None => next_call::<R, K>(header, peaks, lane, acts, self.begun),

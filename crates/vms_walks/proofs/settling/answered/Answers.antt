@@ -13,19 +13,21 @@ no_size = record { managed = 0; min = 0; low = 0; high = 0 }
 
 pub get-size-requires : goal.get-size-requires
 get-size-requires g c =
-    let zone = zone-within c.args.cursor c.args.asking c.args.header.now.layout c.requires.asked c.requires.within in
+    let zone = zone-within c.args.cursor.now c.args.asking c.args.header.now.layout c.requires.asked
+    c.requires.within in
     omega (arith, zone, c.requires.header.sizes_length)
 
 pub choose-chosen-requires-clause-size : goal.choose-chosen-requires-clause-size
 choose-chosen-requires-clause-size g c =
-    let zone = zone-within c.args.cursor c.args.asking c.args.header.now.layout c.requires.asked c.requires.within in
+    let zone = zone-within c.args.cursor.now c.args.asking c.args.header.now.layout c.requires.asked
+    c.requires.within in
     subst IsValidSize (c.get-size.ensures no_size)
     (All-get_or IsValidSize c.args.header.now.sizes c.args.asking.zone no_size
     (omega (arith, zone, c.requires.header.sizes_length)) c.requires.header.sizes_valid)
 
 pub hidden_with-hidden-requires-clause-zone : goal.hidden_with-hidden-requires-clause-zone
 hidden_with-hidden-requires-clause-zone g c =
-    zone-within c.args.cursor c.args.asking c.args.header.now.layout c.requires.asked c.requires.within
+    zone-within c.args.cursor.now c.args.asking c.args.header.now.layout c.requires.asked c.requires.within
 
 pub hidden_with-hidden-requires-clause-kept : goal.hidden_with-hidden-requires-clause-kept
 hidden_with-hidden-requires-clause-kept g c = (
@@ -38,7 +40,8 @@ hidden_with-hidden-requires-clause-kept g c = (
 
 pub covering_mark-mark-requires-clause-size : goal.covering_mark-mark-requires-clause-size
 covering_mark-mark-requires-clause-size g c =
-    let zone = zone-within c.args.cursor c.args.asking c.args.header.now.layout c.requires.asked c.requires.within in
+    let zone = zone-within c.args.cursor.now c.args.asking c.args.header.now.layout c.requires.asked
+    c.requires.within in
     subst IsValidSize (c.get-size.ensures no_size)
     (All-get_or IsValidSize c.args.header.now.sizes c.args.asking.zone no_size
     (omega (arith, zone, c.requires.header.sizes_length)) c.requires.header.sizes_valid)
@@ -49,7 +52,7 @@ returns-clause-same g c = λ base p h is keeps.
     let N = g.R.ThresholdRules.normal in
     c.answer.ensures.same c.args.header.now base p (own h p)
     (answers-cursor c.args.header.now base p P N (own h p) c.choose-chosen.result c.covering_mark-mark.result
-    c.args.cursor c.args.asking c.requires.asked
+    c.args.cursor.now c.args.asking c.requires.asked
     (answering c.args.header.now base P N p h is c.args.asking c.choose-chosen.result c.get-size.result
     c.count-online.result c.covering_mark-mark.result c.hidden_with-hidden.result (c.get-size.ensures no_size)
     (c.count-online.ensures
@@ -72,4 +75,4 @@ returns-clause-within g c = c.answer.ensures.within c.args.header.now.layout c.r
 
 pub returns-clause-of_lane : goal.returns-clause-of_lane
 returns-clause-of_lane g c = λ lane of_lane.
-    of-lane_as lane c.args.cursor c.answer.result c.answer.ensures.kind of_lane
+    of-lane_as lane c.args.cursor.now c.answer.result c.answer.ensures.kind of_lane

@@ -9,14 +9,14 @@ use Rattle.vms_walks.specs.Walks.{IsOfLane, StandsBy}
 use Rattle.vms_walks.proofs.OpenedCalls.{stands-same}
 use Rattle.vms_walks.proofs.walks.Walk.due_call.Goals as goal
 
-pub settled-cursor-requires-clause-within : goal.settled-cursor-requires-clause-within
-settled-cursor-requires-clause-within g c =
+pub settle-requires-clause-within : goal.settle-requires-clause-within
+settle-requires-clause-within g c =
     (subst (λ (u : Option Cursor). IfSome u (λ cursor. IsOfLane c.args.lane cursor
     × IsWithin c.args.header.now.layout cursor)) (sym c.under_way.ensures ∙ c.in-Some.is) c.requires.within.under_way).1
 
 pub due_call-requires-clause-of_lane : goal.due_call-requires-clause-of_lane
 due_call-requires-clause-of_lane g c =
-    c.settled-cursor.ensures.of_lane c.args.lane
+    c.settle.ensures.of_lane c.args.lane
     (subst (λ (u : Option Cursor). IfSome u (λ cursor. IsOfLane c.args.lane cursor
     × IsWithin c.args.header.now.layout cursor)) (sym c.under_way.ensures ∙ c.in-Some.is) c.requires.within.under_way).0
 
@@ -25,10 +25,11 @@ returns-in-Some-clause-some g c = λ base p h is keeps stands.
     let P = g.R.ThresholdRules.pressure in
     let N = g.R.ThresholdRules.normal in
     let of = (subst (λ (u : Option Cursor). IfSome u (λ cursor. IsOfLane c.args.lane cursor
-    × IsWithin c.args.header.now.layout cursor)) (sym c.under_way.ensures ∙ c.in-Some.is) c.requires.within.under_way).0 in
+    × IsWithin c.args.header.now.layout cursor)) (sym c.under_way.ensures ∙ c.in-Some.is)
+    c.requires.within.under_way).0 in
     c.due_call.ensures.some base p h is keeps
     (stands-same c.args.header.now base P N c.args.lane p c.args.acts.now c.args.self.now.begun c.in-Some.cursor
-    c.settled-cursor.result (own h p) (c.settled-cursor.ensures.same base c.args.lane p h is keeps of)
+    c.settle.new.cursor (own h p) (c.settle.ensures.same base c.args.lane p h is keeps of)
     (subst (λ (u : Option Cursor). StandsBy c.args.header.now base P N c.args.lane p c.args.acts.now
     c.args.self.now.begun u (own h p)) (sym c.under_way.ensures ∙ c.in-Some.is) stands))
 
@@ -37,11 +38,12 @@ returns-in-Some-clause-none g c = λ base p h is keeps stands none.
     let P = g.R.ThresholdRules.pressure in
     let N = g.R.ThresholdRules.normal in
     let of = (subst (λ (u : Option Cursor). IfSome u (λ cursor. IsOfLane c.args.lane cursor
-    × IsWithin c.args.header.now.layout cursor)) (sym c.under_way.ensures ∙ c.in-Some.is) c.requires.within.under_way).0 in
+    × IsWithin c.args.header.now.layout cursor)) (sym c.under_way.ensures ∙ c.in-Some.is)
+    c.requires.within.under_way).0 in
     acts-of_whole_row c.args.header.now base P N c.args.lane p c.args.acts.now h is
     (c.due_call.ensures.none base p h is keeps
     (stands-same c.args.header.now base P N c.args.lane p c.args.acts.now c.args.self.now.begun c.in-Some.cursor
-    c.settled-cursor.result (own h p) (c.settled-cursor.ensures.same base c.args.lane p h is keeps of)
+    c.settle.new.cursor (own h p) (c.settle.ensures.same base c.args.lane p h is keeps of)
     (subst (λ (u : Option Cursor). StandsBy c.args.header.now base P N c.args.lane p c.args.acts.now
     c.args.self.now.begun u (own h p)) (sym c.under_way.ensures ∙ c.in-Some.is) stands)) none)
 
