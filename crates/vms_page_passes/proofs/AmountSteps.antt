@@ -147,6 +147,19 @@ module _ (shape : Shape) (slot : ℕ) (counters items : ℕ → ℤ) (old new : 
       both true x y z w is = omega (arith, ints, is)
       both false x y z w is = is
 
+-- an amount of 0 changes nothing
+pub Carries-zero : (shape : Shape) (slot : ℕ) → slot ≤ shape.cpus → (amounts : Amounts) → HasAmounts shape amounts
+    → (k i : ℕ) → Carries shape slot (λ l. if nat_eq k l then pos 0 else pos 0)
+    (λ l. if nat_eq i l then pos 0 else pos 0) amounts amounts
+Carries-zero shape slot slot_in amounts shaped k i =
+    Carries-same shape slot (λ l. pos 0) (λ l. pos 0) amounts amounts
+    (Carries-none shape slot slot_in amounts shaped) (λ l. if nat_eq k l then pos 0 else pos 0)
+    (λ l. if nat_eq i l then pos 0 else pos 0) (λ l l_in. by (nat_eq k l)) (λ l l_in. by (nat_eq i l))
+  where
+    by : (b : Bool) → pos 0 ≡ (if b then pos 0 else pos 0)
+    by true = refl
+    by false = refl
+
 -- what the first n entries of a group's list are for a counter and for an item
 abbrev pub counters_first : ℕ → List ℤ → ℕ → ℕ → ℤ
 counters_first j values n k = if nat_eq j (group_of k) && nat_lt (k % 8) n then entry values k else pos 0

@@ -59,6 +59,9 @@ impl Amounts {
         ensures { Carries layout.now slot (λ k. if nat_eq counter.number k then amount else pos 0)
             (λ i. if nat_eq (item_of layout.now counter.number) i then amount else pos 0) self.old self.new }
     {
+        if amount == 0 {
+            return;
+        }
         let at = counter.number as usize;
         let carried = self.by_counter.get(slot as usize, at);
         self.by_counter.set(slot as usize, at, amount + carried);

@@ -74,13 +74,14 @@ impl<W: LaneWalk> PhaseCheck<W> {
             (record { caller = caller; step = taken } ∷ h) self.new)
             (λ cause. (self.new ≡ self.old) × IsEventFault W.pressure W.normal header.now s items h caller step.now cause) }
     {
-        let Some(step) = step.narrow() else {
+        let narrowed = step.narrow();
+        let Some(step) = &narrowed else {
             return Err(EventCause::Illegal);
         };
-        if !self.registers.judges(&self.facts, caller, &step) {
+        if !self.registers.judges(&self.facts, caller, step) {
             return Err(EventCause::Illegal);
         }
-        self.take_legal(header, caller, &step)
+        self.take_legal(header, caller, step)
     }
 
     /// Whether the events are a whole phase: each lane with lines has had its pass, and every pass has ended.

@@ -1,9 +1,16 @@
--- The amounts of one counter and of its item are written.
-use Rattle.std.proofs.Common.{◌≡◌, ◌<◌, ◌^◌, ◌+ℤ◌, unsigned_abs, ap, ◌∙◌, to_z, of_z, w64, rules}
-use Rattle.std.proofs.lemmas.Int.{fits_signed_from_abs, to_z-of_z}
+-- The amounts of one counter and of its item are written, and none for an amount of 0.
+use Rattle.std.proofs.Common.{◌≡◌, ◌<◌, ◌^◌, ◌+ℤ◌, unsigned_abs, ap, ◌∙◌, arith, pos, to_z, of_z, w64, rules}
+use Rattle.std.proofs.lemmas.Int.{fits_signed_from_abs, ints, to_z-of_z}
 use Rattle.vms_history.specs.Common.{item_of}
-use Rattle.vms_page_passes.proofs.AmountSteps.{Carries-both}
+use Rattle.vms_page_passes.proofs.AmountSteps.{Carries-both, Carries-zero}
 use Rattle.vms_page_passes.proofs.amounts.Amounts.carry.Goals as goal
+
+pub returns-then-amount-eq0 : goal.returns-then-amount-eq0
+returns-then-amount-eq0 c =
+    let shape = c.args.layout.now in
+    let none : c.args.amount ≡ pos 0 = omega (arith, ints) in
+    rw none (Carries-zero shape c.args.slot c.requires.slot c.args.self.now c.requires.shaped c.args.counter.number
+    (item_of shape c.args.counter.number))
 
 pub returns : goal.returns
 returns c =

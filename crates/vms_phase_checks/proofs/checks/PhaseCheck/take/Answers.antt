@@ -14,7 +14,7 @@ match-of (Err e) ok err told = err e told
 pub returns : goal.returns
 returns g c s items h fits checks =
     let step = c.in-Some.step in
-    let is : step_of c.args.step.now ≡ Some step = sym c.narrow.ensures.value ∙ c.in-Some.is in
+    let is : step_of c.args.step.now ≡ Some step = sym c.narrow-narrowed.ensures.value ∙ c.in-Some.is in
     let shows = subst (λ (f : Facts). ShowsPages f h c.args.self.now.registers) (sym checks.facts) checks.shows in
     let legal = subst (λ (f : Facts). IsLegal f (record { caller = c.args.caller; step = step } ∷ h)) checks.facts
     ((c.judges.ensures h shows).0 c.if-not-judges.false) in
