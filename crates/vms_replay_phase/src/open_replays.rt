@@ -67,9 +67,9 @@ impl OpenReplay {
             result self.old self.new }
     {
         let lane = item.lane.lane();
-        let answer = make_line(&mut self.tables, rules, header, lane, item.act);
+        // Last, so that a line without an answer leads straight on to the next one.
         spend(&mut self.volumes, header, lane, item.act);
-        answer
+        make_line(&mut self.tables, rules, header, lane, item.act)
     }
 
     /// Ends the phase. The next one begins with nothing acknowledged and nothing set.
