@@ -7,6 +7,7 @@ use vms_base::{Header, Memory};
 use vms_line::{Line, write_line};
 
 /// Appends a line that counts in its one spelling, whose bytes may be at hand, and nothing for a blank one.
+#[inline(always)]
 pub fn write_accepted(
     out: &mut Vec<u8>,
     header: &Header,
@@ -21,11 +22,23 @@ pub fn write_accepted(
     match (line, spelled) {
         (Line::Blank, _) => Ok(()),
         (_, Some(text)) => copy_line(out, text),
-        (_, None) => write_line(out, header, line),
+        (_, None) => spell_line(out, header, *line),
     }
 }
 
+/// Appends a line in its one spelling. It is taken by value, so that a line whose bytes are at hand needs no place in
+/// memory.
+#[cold]
+fn spell_line(out: &mut Vec<u8>, header: &Header, line: Line) -> Result<(), Memory>
+    requires header { IsHeader header.now }
+    requires line { IsLineOf header.now line }
+    ensures { OnOk result (out.new.items ≡ out.old.items ++ spelled_line header.now line) }
+{
+    write_line(out, header, &line)
+}
+
 /// Appends these bytes, and the one that ends a line.
+#[inline(always)]
 fn copy_line(out: &mut Vec<u8>, text: &[u8]) -> Result<(), Memory>
     ensures { OnOk result (out.new.items ≡ out.old.items ++ (text.now ++ 10 ∷ [])) }
 {
