@@ -1,5 +1,5 @@
 #!/usr/bin/env python3
-"""Builds the program without a proof, as close as that gets to the proved build, so that its instructions can be counted.
+"""Builds the program without a proof, as close as that gets to the proved build, to count its instructions.
 
     unproved.py OUT
 
@@ -9,8 +9,8 @@ checks, puts the attributes of the sources back, and compiles and links that for
 takes some three minutes. By valgrind `certify` took 2,546 instructions an event so where the proved program took 2,557,
 `check` 798 a line where it took 788, and `replay` 920 where it took 938.
 
-Nothing of OUT is proved, and it must not be used for anything else: it goes on where `rt try` would have stopped. Needed
-are Linux and a Rattle kit whose `rt try` leaves its module for a moment, as 13b and 13f do.
+Nothing of OUT is proved, and it must not be used for anything else: it goes on where `rt try` would have stopped.
+Needed are Linux and a Rattle kit whose `rt try` leaves its module for a moment, as 13b does.
 """
 import argparse
 import os
@@ -24,7 +24,12 @@ from pathlib import Path
 
 TOP = Path(__file__).resolve().parent.parent
 KIT = Path(shutil.which("rt") or "rt").resolve().parent.parent
-LEVELS = {"#[inline]": "inlinehint", "#[inline(always)]": "alwaysinline", "#[inline(never)]": "noinline", "#[cold]": "cold"}
+LEVELS = {
+    "#[inline]": "inlinehint",
+    "#[inline(always)]": "alwaysinline",
+    "#[inline(never)]": "noinline",
+    "#[cold]": "cold",
+}
 FUNCTION = re.compile(r"\s*(?:pub(?:\([^)]*\))?\s+)?(?:const\s+)?(?:unsafe\s+)?(?:ghost\s+)?fn\s+(\w+)")
 IMPL = re.compile(r"(?:unsafe\s+)?impl\b(.*)")
 DEFINITION = re.compile(r'define internal .*?@"([^"]+)"')
@@ -145,7 +150,8 @@ def main():
         subprocess.run(as_text, check=True)
         with open(work / "try.ll", encoding="utf-8") as before, open(work / "out.ll", "w", encoding="utf-8") as after:
             after.writelines(rewritten(before, all_levels()))
-        subprocess.run([clang, "-O3", "-march=x86-64-v2", "-c", *quiet, work / "out.ll", "-o", work / "out.o"], check=True)
+        compiled = [clang, "-O3", "-march=x86-64-v2", "-c", *quiet, work / "out.ll", "-o", work / "out.o"]
+        subprocess.run(compiled, check=True)
         linked = ["--target", "x86_64-unknown-linux-gnu", "--toolchain", KIT / "toolchain", "-o", out, work / "out.o"]
         libraries = [KIT / "c/libos_c.a", KIT / "c/liblibc_c.a"]
         subprocess.run([KIT / "bin/rattle-link", *linked, *libraries], check=True, stdout=subprocess.DEVNULL)
