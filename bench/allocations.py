@@ -5,12 +5,14 @@
     bench/allocations.py --pool
 
 The program is crates/vozhkell/out/vozhkell, or the one that VOZHKELL names, called with the words `replay`, `check`,
-`run`, `gen` and `groups`. The traces are the stored run of the program and two phases of 2,000 lines, where none is
-given, and under `run` and `groups` rows of bench/rows in which each phase has one lane, so that one output is right. A
-small library that is loaded before libc (cc builds it) makes the Nth call of malloc or realloc find no memory, for each
-N that a run reaches. Such a run ends with status 6, and what it wrote begins what the program writes where nothing is
-refused; or the same size is asked for again and found, and it ends as where nothing is refused. A line is printed for
-each trace, and the status is 1 if a run ends otherwise.
+`record`, `certify`, `run`, `groups` and `gen`. The traces are the stored run of the program and two phases of 2,000
+lines, where none is given, and `certify` judges what is recorded of them. Under `run` and `groups` they are rows of
+bench/rows in which each phase has one lane, so that one output is right; under `record` and `certify` also rows with a
+history, of which one is of three phases and one lacks what is due. A small library that is loaded before libc (cc
+builds it) makes the Nth call of malloc or realloc find no memory, for each N that a run reaches. Such a run ends with
+status 6, and what it wrote begins what the program writes where nothing is refused; or the same size is asked for again
+and found, and it ends as where nothing is refused. A line is printed for each trace, and the status is 1 if a run ends
+otherwise.
 
 With --pool the program is crates/pool_example/out/pool_example, which is to write what stands beside it. Where it finds
 no memory, it says so on standard error and ends with status 1; or it starts a thread less, and ends as otherwise.
@@ -93,17 +95,27 @@ def contents(*path):
         return file.read()
 
 
+def row(name):
+    return contents(TOP, "bench", "rows", name)
+
+
 def calls_of(program, traces):
     """The name, the words and the input of each call, and what it should write where that is written."""
     traces = traces or {"stored run": contents(TOP, "crates", "vozhkell", "stdin"), "long phases": long_phases()}
-    for command in ("replay", "check"):
+    for command in ("replay", "check", "record"):
         for name, text in traces.items():
             yield f"{command} of {name}", [program, command], text, None
-    in_turn = [contents(TOP, "bench", "rows", f"whole_run_in_turn.{ending}") for ending in ("vmtrace", "out")]
-    yield "run of whole_run_in_turn", [program, "run"], *in_turn
-    for name in ("groups_flush_of_a_part", "groups_refused_lines_wait", "groups_unknown_parent"):
-        row = [contents(TOP, "bench", "rows", f"{name}.{ending}") for ending in ("vmgroups", "out")]
-        yield f"groups of {name}", [program, "groups"], *row
+    for name, text in traces.items():
+        recorded = subprocess.run([program, "record"], input=text, capture_output=True, timeout=60).stdout
+        yield f"certify of what is recorded of {name}", [program, "certify"], recorded, None
+    history = row("history_of_a_change.vmhistory")
+    yield "record of history_of_a_change", [program, "record"], history[:history.index(b"history 1\n")], history
+    for command, ending, names in [
+            ("certify", "vmhistory", ["history_of_a_change", "history_after_refused_lines", "history_is_missing"]),
+            ("run", "vmtrace", ["whole_run_in_turn"]),
+            ("groups", "vmgroups", ["groups_flush_of_a_part", "groups_refused_lines_wait", "groups_unknown_parent"])]:
+        for name in names:
+            yield f"{command} of {name}", [program, command], row(f"{name}.{ending}"), row(f"{name}.out")
     yield "gen 1 4 50", [program, "gen", "1", "4", "50"], b"", None
 
 
