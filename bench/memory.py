@@ -3,12 +3,13 @@
 
     bench/memory.py
 
-The programs are bench/check.rs, bench/replay.rs, bench/run.rs and bench/groups.rs, or the one that VOZHKELL names,
-called with the word of the command. The trace has almost 1,000,000 lines in 2,000 phases, under `run` and `groups` the
-first 100,000 in 200. Every other phase ends with a report, and a third of the lines of each answers. What is printed is
-VmHWM of /proc, once the program has read all lines. With VOZHKELL also `gen` is called, with 100,000 lines on 8 CPUs;
-there it is the last VmHWM that is seen before the program ends. The status is 1 if it is more than is allowed or the
-program doesn't end with status 0.
+The programs are bench/check.rs, bench/replay.rs, bench/run.rs, bench/groups.rs, bench/record.rs and bench/certify.rs,
+or the one that VOZHKELL names, called with the word of the command. The trace has almost 1,000,000 lines in 2,000
+phases, under `run`, `groups` and `record` the first 100,000 in 200, and `certify` is given what is recorded of these.
+Every other phase ends with a report, and a third of the lines of each answers. What is printed is VmHWM of /proc, once
+the program has read all lines, or the last that is seen before it ends, as `record` writes the history then. With
+VOZHKELL also `gen` is called, with 100,000 lines on 8 CPUs, which reads nothing. The status is 1 if it is more than is
+allowed or the program doesn't end with status 0.
 """
 import array
 import fcntl
@@ -19,8 +20,12 @@ import tempfile
 import termios
 import time
 
-TOP = os.path.dirname(os.path.dirname(os.path.abspath(__file__)))
-MOST = {"check": 3_000_000, "replay": 3_000_000, "run": 4_000_000, "groups": 4_000_000, "gen": 10_000_000}
+from faults import built, run
+
+# `record` and `certify` keep the 98,800 lines of the lanes, in 32 bytes each or, the plain programs, in 48: at most 4.8
+# MB. The history, of which the text alone has 4.3 MB, isn't kept.
+MOST = {"check": 3_000_000, "replay": 3_000_000, "run": 4_000_000, "groups": 4_000_000, "record": 8_000_000,
+        "certify": 8_000_000, "gen": 10_000_000}
 HEAD = b"""vmtrace 1
 cpus 8
 zone 0 Normal 262144 100 125 150
@@ -54,8 +59,8 @@ c0 flush root
 
 
 def trace(command):
-    """For the threads of `run` and `groups` a tenth of the phases."""
-    phases = 200 if command in ("run", "groups") else 2000
+    """A tenth of the phases for the threads of `run` and `groups`, and for what writes and judges a history."""
+    phases = 2000 if command in ("check", "replay") else 200
     head, lines, report = HEAD, LINES, b"report totals\n"
     if command == "groups":
         head, lines, report = GROUP_HEAD, GROUP_LINES, b"report groups\n"
@@ -81,8 +86,17 @@ def high_water(process):
     return max([0, *map(int, marks)]) * 1024
 
 
+def most_to_the_end(process):
+    """The last high-water mark in bytes that is seen before a program ends by itself."""
+    most = 0
+    while process.poll() is None:
+        most = max(most, high_water(process))
+    return most
+
+
 def most_memory(program, command, text):
-    """The high-water mark in bytes of a program that waits for more after the whole trace, and its status."""
+    """The high-water mark in bytes of a program that waits for more after the whole trace, and then finds its end; and
+    its status."""
     process = subprocess.Popen([program, command], stdin=subprocess.PIPE, stdout=subprocess.DEVNULL)
     with process.stdin as pipe:
         pipe.write(text)
@@ -91,34 +105,30 @@ def most_memory(program, command, text):
             time.sleep(0.01)
         time.sleep(0.1)
         most = high_water(process)
-    return most, process.wait(timeout=60)
+    return max(most, most_to_the_end(process)), process.returncode
 
 
 def most_of_made(program):
-    """The same of a program that reads nothing and ends by itself: its mark is read again and again."""
+    """The same of a program that reads nothing."""
     words = [program, "gen", "1", "8", "100000"]
     process = subprocess.Popen(words, stdin=subprocess.DEVNULL, stdout=subprocess.DEVNULL)
-    most = 0
-    while process.poll() is None:
-        most = max(most, high_water(process))
-    return most, process.returncode
+    return most_to_the_end(process), process.returncode
 
 
 def main():
     failed = 0
+    proved = os.environ.get("VOZHKELL")
     with tempfile.TemporaryDirectory() as folder:
-        for command, allowed in MOST.items():
-            program = os.environ.get("VOZHKELL")
-            if command == "gen" and not program:
-                continue
-            if not program:
-                program = os.path.join(folder, command)
-                source = os.path.join(TOP, "bench", command + ".rs")
-                subprocess.run(["rustc", "-O", "--edition", "2021", "-o", program, source], check=True)
+        programs = {command: proved or built(command, folder) for command in MOST if proved or command != "gen"}
+        for command, program in programs.items():
+            allowed = MOST[command]
             if command == "gen":
                 most, status = most_of_made(program)
             else:
-                most, status = most_memory(program, command, trace(command))
+                text = trace(command)
+                if command == "certify":
+                    text = run([programs["record"], "record"], text)[1]
+                most, status = most_memory(program, command, text)
             print(f"{command}: at most {most:,} bytes, where {allowed:,} are allowed; status {status}")
             failed += most == 0 or most > allowed or status != 0
     sys.exit(1 if failed else 0)
