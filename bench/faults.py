@@ -3,12 +3,15 @@
 
     bench/faults.py [CASE..]
 
-The programs are bench/replay.rs, bench/run.rs, bench/check.rs and bench/groups.rs, or for these and for `gen` the one
-that VOZHKELL names, called with the word of the command. The traces are some of bench/rows, with what is written there
-of their outputs, and the beginnings of one by bench/phases.py and of one by bench/groups.py, of which the plain
-programs say what is to be written. Under `run` no phase has lines of two lanes, so that one output is right, and under
-`groups` what two lanes answer is the same in every order. CASES are the names of functions below, and all where none is
-given. A line is printed for each case, and the status is 1 if one fails.
+The programs are bench/check.rs, bench/replay.rs, bench/run.rs, bench/groups.rs, bench/record.rs and bench/certify.rs,
+or for these and for `gen` the one that VOZHKELL names, called with the word of the command. The traces are some of
+bench/rows, with what is written there of their outputs; the beginnings of one by bench/phases.py and of one by
+bench/groups.py, of which the plain programs say what is to be written; and 2,000 phases of one lane each, of which the
+rules say it. `certify` is given histories of bench/rows and a long one that bench/record.rs writes. Of an input that
+ends early bench/certify.py says what `certify` answers, and bench/make_history.py what `record` writes after the trace.
+Under `run` no phase has lines of two lanes, so that one output is right, and under `groups` what two lanes answer is
+the same in every order. CASES are the names of functions below, and all where none is given. A line is printed for each
+case, and the status is 1 if one fails.
 
 The program needs no build of its own for this: short and failing reads come from sockets, failing writes from full
 devices, closed pipes and limits of file sizes, want of memory from limits of the address space.
@@ -23,7 +26,9 @@ import sys
 import tempfile
 import threading
 
+from certify import Reading, certify, read_body, read_header
 from large_rows import EVENTS, NODE, ZONE
+from make_history import history_of
 
 TOP = os.path.dirname(os.path.dirname(os.path.abspath(__file__)))
 DONE, WORDS, HEADER, REFUSED, READ, WRITE, MEMORY = range(7)
@@ -36,6 +41,8 @@ SMALLEST_MADE = b"line 8: report totals\n" + b"".join(b"%s %d\n" % (counter.enco
         *(f"0 Normal {item}" for item in ZONE), *(f"0 node {item}" for item in NODE),
         *(f"event {event}" for event in EVENTS), "counter files"]) + b"done accepted 2 refused 0\n"
 BOUNDARIES = {b"sync", b"flush", b"offline", b"online", b"report"}
+# What a pipe holds that nobody has set otherwise, and how many bytes of one a reader takes at most before it leaves.
+PIPE, MOST_TAKEN = 1 << 16, 60000
 
 
 class Wrong(Exception):
@@ -140,8 +147,8 @@ def taken(text, out, lines):
 
 class Trials:
     def __init__(self, programs, plain):
-        """Programs by command, and the plain ones, which say what is to be written of the long trace."""
-        self.programs = programs
+        """Programs by command, and the plain ones, which say what is to be written of the long traces."""
+        self.programs, self.plain = programs, plain
         self.long = made_by("phases.py", "1", "20000")
         self.two_lanes = self.row("replay", "two_lanes")
         self.burial = self.row("replay", "burial_moves_once")
@@ -164,7 +171,9 @@ class Trials:
                                    *run([plain["record"], "record"], self.row("replay", name).text))
                          for name in ("two_lanes", "burial_moves_once")]
         self.readers += self.recorded
+        self.in_phases = self.calls_in_phases()
         self.longs = [self.call(command, text, *run([plain[command], command], text)) for command, text in longs]
+        self.longs += [call for call in self.in_phases if str(call) in ("run", "groups")]
         self.made = [self.call("gen 1 1 1", b"", DONE, SMALLEST_MADE)] if "gen" in programs else []
 
     def call(self, words, text, status, out):
@@ -180,6 +189,26 @@ class Trials:
         with open(os.path.join(rows, name + kind), "rb") as trace, \
                 open(os.path.join(rows, name + ".out"), "rb") as out:
             return self.call(command, trace.read(), status, out.read())
+
+    def calls_in_phases(self):
+        """Calls on 2,000 phases of one lane each, the two lanes in turn. Eight lines of each phase answer."""
+        lanes = [n % 2 for n in range(2000)]
+        text = b"vmtrace 1\ncpus 2\nzone 0 Normal 262144 100 125 150\ngo\n" + b"".join(
+            b"c%d val 0 Normal nr_free_pages\n" % lane * 8 + b"sync\n" for lane in lanes)
+        of_groups = b"vmgroups 1\ncpus 2\ngroup a\ngo\n" + b"".join(
+            b"c%d value a\n" % lane * 8 + b"sync\n" for lane in lanes)
+        told = b"".join(b"line %d: value 0\n" % line for line in range(5, 18005) if (line - 4) % 9)
+        history = b"history 1\n" + b"".join(
+            b"phase\n0 Split 1 %d\n" % lane + b"1 LoadG 0 0\n" * 8 + b"0 Join 1\n" for lane in lanes)
+        done = b"done accepted 18000 refused 0\n"
+        return [self.call("check", text, DONE, text + b"# " + done), self.call("replay", text, DONE, told + done),
+                self.call("run", text, DONE, told + done), self.call("groups", of_groups, DONE, told + done),
+                self.call("record", text, DONE, text + history)]
+
+    def copied(self, text):
+        """What `record` writes above the history: what `check` writes of these lines, without remarks."""
+        checked = run([self.plain["check"], "check"], text)[1]
+        return b"".join(line for line in checked.splitlines(True) if not line.startswith(b"#"))
 
     def all_words(self):
         """The words of each command that answers lines of a trace of page counters."""
@@ -207,19 +236,23 @@ class Trials:
 
     def failing_reads(self):
         """The read after some bytes, of one trace after each, fails. Until the header was read, nothing is written."""
-        for call in [*self.readers, self.longs[0], self.longs[2]]:
+        for call in self.readers + self.longs:
             text, (_, out) = call.text, call.answer
             header = text[:text.index(b"\ngo\n") + 4].count(b"\n")
-            step = 9973 if call in self.longs else 1 if call is self.burial or call in self.of_groups else 7
+            step = 1 if call is self.burial or call in self.of_groups else 7
+            if call in self.longs:
+                step = max(9973, len(text) // 40)
             for size in range(0, len(text) + 1, step):
-                lines = text[:size].count(b"\n")
-                if lines < header or call in self.certified:
+                whole = text[:text.rfind(b"\n", 0, size) + 1]
+                lines = whole.count(b"\n")
+                if lines < header or str(call) == "certify":
                     said = b""
                 elif call is self.spelled:
-                    said = text[:text.rindex(b"\n", 0, size) + 1]
-                elif call in self.recorded:
-                    said = run([call.words[0], "check"], text[:text.rfind(b"\n", 0, size) + 1])[1]
-                    said = b"".join(line for line in said.splitlines(True) if not line.startswith(b"#"))
+                    said = whole
+                elif str(call) == "check":
+                    said = run([self.plain["check"], "check"], whole)[1].rpartition(b"# done ")[0]
+                elif str(call) == "record":
+                    said = self.copied(whole)
                 else:
                     said = taken(text, out, lines)
                 found = from_socket(call.words, [text[:size]] if size else [], fails=True)
@@ -260,13 +293,9 @@ class Trials:
 
     def early_output(self):
         """Of 2,000 phases some output comes before the second half of them is sent."""
-        phase = b"c0 val 0 Normal nr_free_pages\n" * 8 + b"sync\n"
-        text = b"vmtrace 1\ncpus 1\nzone 0 Normal 262144 100 125 150\ngo\n" + phase * 2000
-        told = b"".join(b"line %d: value 0\n" % line for line in range(5, 18005) if (line - 4) % 9)
-        wanted = {"check": text + b"# done accepted 18000 refused 0\n"}
-        of_groups = b"vmgroups 1\ncpus 1\ngroup a\ngo\n" + (b"c0 value a\n" * 8 + b"sync\n") * 2000
-        for words, text in [*((words, text) for words in self.all_words()), (self.of_groups[0].words, of_groups)]:
-            process = subprocess.Popen(words, stdin=subprocess.PIPE, stdout=subprocess.PIPE, bufsize=0)
+        for call in self.in_phases:
+            text = call.text
+            process = subprocess.Popen(call.words, stdin=subprocess.PIPE, stdout=subprocess.PIPE, bufsize=0)
             came, parts = threading.Event(), []
 
             def read(out=process.stdout, parts=parts, came=came):
@@ -281,9 +310,8 @@ class Trials:
             process.stdin.write(text[len(text) // 2:])
             process.stdin.close()
             reader.join(timeout=60)
-            expect(f"the output of {words[1]} came early", is_early, True)
-            expect(f"the output of {words[1]}", (process.wait(timeout=60), b"".join(parts)),
-                   (DONE, wanted.get(words[1], told + b"done accepted 18000 refused 0\n")))
+            expect(f"the output of {call} came early", is_early, True)
+            expect(f"the output of {call}", (process.wait(timeout=60), b"".join(parts)), call.answer)
 
     def folder_as_input(self):
         answers = [(words, (READ, b""))
@@ -322,29 +350,61 @@ class Trials:
     def cut_inputs(self):
         """The input ends after each byte: a whole `go` tells a refused header from a trace. Of a trace the whole lines
         are answered as in the whole text, and the line that was cut says at most what it says itself."""
-        for call in (self.two_lanes, self.in_turn):
-            text, (_, whole) = call.text, call.answer
-            go = text.index(b"\ngo\n") + 3
-            header = text[:go + 1].count(b"\n")
-            for size in range(len(text) + 1):
-                status, out = run(call.words, text[:size])
-                lines, cut = text[:size].count(b"\n"), len(text[:size].rpartition(b"\n")[2]) > 0
+        for call in [self.two_lanes, self.in_turn, *self.of_groups, self.spelled, self.recorded[0], *self.certified]:
+            go = call.text.index(b"\ngo\n") + 3
+            for size in range(len(call.text) + 1):
+                status, out = run(call.words, call.text[:size])
                 what = f"{call} cut after {size} bytes"
                 if size < go:
                     # The line that is refused is the one that was cut, or where it says something the next one.
+                    lines = call.text[:size].count(b"\n")
                     named = out.startswith((b"line %d: " % (lines + 1), b"line %d: " % (lines + 2)))
                     expect(what, (status, out.count(b"\n"), named), (HEADER, 1, True))
-                    continue
-                lines = max(lines, header)
-                said = b"".join(part for number, part in answers(text, whole) if number <= lines)
-                expect(f"{what}, what began the output", out[:len(said)], said)
-                cut_line, _, end = out[len(said):].rpartition(b"done ")
-                refused = b": refused: " in cut_line
-                counts = lines - header + (1 if cut and size > go and not refused else 0)
-                expect(what, (status, end),
-                       (REFUSED if refused else DONE, b"accepted %d refused %d\n" % (counts, refused)))
-                expect(f"{what}, the cut line", cut_line[:cut_line.find(b":")],
-                       b"line %d" % (lines + 1) if cut_line else b"")
+                elif call in self.certified:
+                    wanted, said = certify(call.text[:size])
+                    expect(what, (status, out), (wanted, said.encode()))
+                elif call in (self.spelled, self.recorded[0]):
+                    self.expect_copy(what, call, size, status, out)
+                else:
+                    self.expect_answers(what, call, size, status, out)
+
+    def expect_answers(self, what, call, size, status, out):
+        """The answers to the whole lines of a text that was cut, and what the cut line says."""
+        text, (_, whole) = call.text, call.answer
+        go = text.index(b"\ngo\n") + 3
+        header = text[:go + 1].count(b"\n")
+        lines, cut = text[:size].count(b"\n"), len(text[:size].rpartition(b"\n")[2]) > 0
+        lines = max(lines, header)
+        above = [part for number, part in answers(text, whole) if number <= lines]
+        said, refused_above = b"".join(above), sum(b": refused: " in part for part in above)
+        expect(f"{what}, what began the output", out[:len(said)], said)
+        cut_line, _, end = out[len(said):].rpartition(b"done ")
+        refused = b": refused: " in cut_line
+        accepted = lines - header - refused_above + (1 if cut and size > go and not refused else 0)
+        expect(what, (status, end), (REFUSED if refused_above + refused else DONE,
+                                     b"accepted %d refused %d\n" % (accepted, refused_above + refused)))
+        expect(f"{what}, the cut line", cut_line[:cut_line.find(b":")], b"line %d" % (lines + 1) if cut_line else b"")
+
+    def expect_copy(self, what, call, size, status, out):
+        """`check` and `record` write the whole lines of a text in which each line counts and has the one spelling, and
+        the cut line if it counts. `check` adds a remark on a refused one and its last line, `record` the history."""
+        text = call.text[:size]
+        whole, end, cut = text.rpartition(b"\n")
+        whole += end
+        header = call.text[:call.text.index(b"\ngo\n") + 4].count(b"\n")
+        spelled, lines = b" ".join(cut.split()) + b"\n" if cut else b"", whole.count(b"\n")
+        reading = iter(Reading(text, True))
+        refused = read_body(reading, read_header(reading))[1]
+        if str(call) == "record":
+            written = whole + (b"" if refused else spelled)
+            history = history_of(text)
+            wanted = written + history[history.index(b"history 1\n"):]
+        else:
+            cause = out[len(whole):].partition(b"\n")[0].rpartition(b" ")[2]
+            remark = b"# line %d: refused: %s\n" % (lines + 1, cause)
+            accepted = max(0, lines - header + (1 if cut and not refused else 0))
+            wanted = whole + (remark if refused else spelled) + b"# done accepted %d refused %d\n" % (accepted, refused)
+        expect(what, (status, out), (REFUSED if refused else DONE, wanted))
 
     # Writing.
 
@@ -375,10 +435,10 @@ class Trials:
             expect(f"{call} into a closed pipe", done.returncode, WRITE)
 
     def reader_that_leaves(self):
-        """The pipe is closed after some bytes of an output that is longer than what a pipe holds."""
-        for call in (call for call in self.longs if len(call.answer[1]) > 1 << 18):
+        """The pipe is closed after some bytes of an output of which more is left than a pipe holds."""
+        for call in (call for call in self.longs if len(call.answer[1]) > PIPE + MOST_TAKEN):
             out = call.answer[1]
-            for size in (1, 5000, 60000):
+            for size in (1, 5000, MOST_TAKEN):
                 with tempfile.TemporaryFile() as trace:
                     trace.write(call.text)
                     trace.seek(0)
