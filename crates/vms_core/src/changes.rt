@@ -10,7 +10,7 @@ impl Plain {
     /// Changes a counter on a CPU, as a caller does that meets no other (`mod_zone_page_state`, `inc_zone_page_state`
     /// and `dec_zone_page_state` of mm/vmstat.c, and those of the nodes): `delta` pages, which are 1 and -1 in the
     /// kernel's `inc` and `dec`.
-    #[inline]
+    #[inline(always)]
     pub fn change(
         &mut self,
         layout: &Layout,

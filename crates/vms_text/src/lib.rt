@@ -24,5 +24,5 @@ pub use place_names::{
     zone_named,
 };
 pub use place_words::{name_of_item, words_of_counter, words_of_place};
-pub use scanning::next_word;
+pub use scanning::{next_word, word_length};
 pub use writing::{Word, write_words};

@@ -22,9 +22,9 @@ fn word_begin(bytes: &[u8]) -> Option<usize>
     bytes.iter().position(u8::is_ascii_graphic)
 }
 
-/// The bytes before the first byte that isn't one of a word, or all.
+/// How many bytes the word has that the bytes begin with, 0 where they begin with none.
 #[inline]
-fn word_length(bytes: &[u8]) -> usize
+pub fn word_length(bytes: &[u8]) -> usize
     ensures { result ≡ position_or_len (λ byte. not (is_word_byte byte)) bytes.now }
 {
     match first_other(bytes) {

@@ -1,7 +1,7 @@
 use vms_base::{CounterId, CpuId, CpuState, GroupId, ItemId, Mode, PlaceId};
 
-/// A step on the page counters with its numbers as a line gives them: the kinds and the arguments are those of `Step`. A
-/// number that fits 64 bits may be out of the range that the step has for it.
+/// A step on the page counters with its numbers as a line gives them: the kinds and the arguments are those of `Step`.
+/// A number that fits 64 bits may be out of the range that the step has for it.
 #[derive(Clone, Copy, Debug, PartialEq, Eq)]
 pub enum WideStep {
     LoadT(PlaceId, u64, u64),

@@ -1,10 +1,9 @@
-ghost use Rattle.std.specs.Prelude.{◌≡◌, [], ◌∷◌, ◌&&◌, MatchOption, not, position};
-ghost use Rattle.std.specs.List.{position_or_len};
-ghost use Rattle.vms_text.specs.Common.{is_clean, is_word_byte, words_of};
+ghost use Rattle.std.specs.Prelude.{◌≡◌, [], ◌∷◌, ◌&&◌, MatchOption};
+ghost use Rattle.vms_text.specs.Common.{is_clean, words_of};
 ghost use Rattle.vms_written_lines.specs.Words.{are_none};
 
 use std::marker::Model;
-use vms_text::{is_clean, next_word};
+use vms_text::{is_clean, next_word, word_length};
 
 /// The words of a line that are still to be read, and whether the bytes between those that were read are blanks.
 #[derive(Drop)]
@@ -102,22 +101,4 @@ fn without_space(bytes: &[u8]) -> &[u8]
         [b' ', rest @ ..] => rest,
         _ => bytes,
     }
-}
-
-/// The bytes before the first byte that isn't one of a word, or all.
-#[inline]
-fn word_length(bytes: &[u8]) -> usize
-    ensures { result ≡ position_or_len (λ byte. not (is_word_byte byte)) bytes.now }
-{
-    match first_other(bytes) {
-        Some(end) => end,
-        None => bytes.len(),
-    }
-}
-
-#[inline]
-fn first_other(bytes: &[u8]) -> Option<usize>
-    ensures { result ≡ position (λ byte. not (is_word_byte byte)) bytes.now }
-{
-    bytes.iter().position(|byte| !byte.is_ascii_graphic())
 }
