@@ -40,6 +40,19 @@ impl<'a> LaneLines<'a> {
         }
     }
 
+    /// The lines of a lane among those of a phase, of which it has `count`.
+    #[inline]
+    pub fn with_count(script: &'a PhaseScript, lane: Lane, count: usize) -> LaneLines<'a>
+        requires { count ≡ length (lane_items lane script.now) }
+        ensures { result ≡ lane_items lane script.now }
+    {
+        LaneLines {
+            lane,
+            script,
+            count,
+        }
+    }
+
     /// How many lines the lane has.
     #[inline]
     pub fn len(&self) -> usize

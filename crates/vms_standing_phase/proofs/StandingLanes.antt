@@ -2,8 +2,7 @@
 use Rattle.std.proofs.Common.{◌≡◌, ℕ, zero, suc, ◌<◌, List, [], ◌∷◌, All, length, ap, arith, refl, subst, sym, ◌∙◌}
 use Rattle.std.specs.Prelude.{Result, IfOk, slice_index_or}
 use Rattle.std.proofs.lemmas.List.Elements.{All-cons, All-head, All-nil, All-tail}
-use Rattle.vms_world.specs.Common.{Header, IsHeader, IsLaneOf, IsThresholdRule, Item, Lane, Memory, ZoneSize}
-use Rattle.vms_world.specs.Common.{lane_items}
+use Rattle.vms_world.specs.Common.{Header, IsHeader, IsThresholdRule, Item, Lane, Memory, ZoneSize, lane_items}
 use Rattle.vms_world.specs.declared.worlds.World.{World}
 use Rattle.vms_tables.specs.declared.tables.Tables.{Tables}
 use Rattle.vms_tables.specs.Common.{AreTables}
@@ -37,24 +36,22 @@ module _ {N P : Type 0} (share : PhaseShare N P) where
       → IsThresholdRule (normal_accepts share.normal) (normal_answers share.normal)
       → IsThresholdRule (pressure_accepts share.pressure) (pressure_answers share.pressure)
       → IsHeader share.header → AreTables share.header share.tables
-      → All (λ (item : Item). IsLaneOf share.header item.lane) share.script
       → (jobs : List LaneJob) (made : List (StandingLane N P)) → Pairs Stands jobs made
       → All (MayRunJob share.header share.tables) jobs
       → All (MayBeMade normal_accepts normal_answers pressure_accepts pressure_answers) made
-  may-stand na n pa p normal pressure known of lanes [] [] pairs may = All-nil (MayBeMade na n pa p)
-  may-stand na n pa p normal pressure known of lanes [] (one ∷ made) pairs may = absurd pairs
-  may-stand na n pa p normal pressure known of lanes (job ∷ jobs) [] pairs may = absurd pairs
-  may-stand na n pa p normal pressure known of lanes (job ∷ jobs) (one ∷ made) pairs may =
+  may-stand na n pa p normal pressure known of [] [] pairs may = All-nil (MayBeMade na n pa p)
+  may-stand na n pa p normal pressure known of [] (one ∷ made) pairs may = absurd pairs
+  may-stand na n pa p normal pressure known of (job ∷ jobs) [] pairs may = absurd pairs
+  may-stand na n pa p normal pressure known of (job ∷ jobs) (one ∷ made) pairs may =
       All-cons (MayBeMade na n pa p) one made
       (subst (MayBeMade na n pa p) (sym pairs.0) (record {
         known = known;
         of = of;
-        lanes = lanes;
         may = All-head (MayRunJob share.header share.tables) job jobs may;
         normal = normal;
         pressure = pressure;
       }))
-      (may-stand na n pa p normal pressure known of lanes jobs made pairs.1
+      (may-stand na n pa p normal pressure known of jobs made pairs.1
       (All-tail (MayRunJob share.header share.tables) job jobs may))
 
   module _ (pressure : P → ZoneSize → ℕ → ℕ → Type 0) (normal : N → ZoneSize → ℕ → ℕ → Type 0) where

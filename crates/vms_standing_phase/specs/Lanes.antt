@@ -1,6 +1,6 @@
 -- The lanes of a phase, made by threads that borrow nothing of it.
-use Rattle.std.specs.Prelude.{ℕ, List, All, Result, IfOk}
-use Rattle.vms_world.specs.Common.{IsHeader, IsLaneOf, IsThresholdRule, Item, Lane, Memory, ZoneSize, lane_items}
+use Rattle.std.specs.Prelude.{ℕ, List, Result, IfOk}
+use Rattle.vms_world.specs.Common.{IsHeader, IsThresholdRule, Item, Lane, Memory, ZoneSize, lane_items}
 use Rattle.vms_tables.specs.Common.{AreTables}
 use Rattle.vms_lane.specs.declared.passes.LanePasses.{LanePasses}
 use Rattle.vms_phase.specs.declared.jobs.LaneDone.{LaneDone}
@@ -24,7 +24,6 @@ module _ {N P : Type 0} where
       (one : StandingLane N P) : Type 0 where
     pub known : IsHeader one.share.header
     pub of : AreTables one.share.header one.share.tables
-    pub lanes : All (λ item. IsLaneOf one.share.header item.lane) one.share.script
     pub may : MayRunJob one.share.header one.share.tables one.job
     pub normal : IsThresholdRule (normal_accepts one.share.normal) (normal_answers one.share.normal)
     pub pressure : IsThresholdRule (pressure_accepts one.share.pressure) (pressure_answers one.share.pressure)

@@ -38,12 +38,13 @@ fn standing_job<N: Drop, P: Drop>(
     let LaneJob {
         lane,
         passes,
-        lines: _,
+        lines,
     } = job;
     let share = Arc::try_clone(shared)?;
     Ok(StandingJob {
         share,
         lane,
         passes,
+        count: lines.len(),
     })
 }

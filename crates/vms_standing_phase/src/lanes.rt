@@ -1,10 +1,12 @@
+ghost use Rattle.std.specs.Prelude.{◌≡◌, length};
+ghost use Rattle.vms_world.specs.Common.{lane_items};
 ghost use Rattle.vms_standing_phase.specs.Lanes.{MayBeMade, WasMade, lane_job};
 
 use crate::shares::{PhaseShare, StandingJob};
 use std::sync::Wait;
 use vms_base::Memory;
 use vms_calc::{Rule, Rules};
-use vms_lane::{CountedLines, Gate, Host, LaneLines, LanePasses};
+use vms_lane::{Gate, Host, LaneLines, LanePasses};
 use vms_phase::{LaneDone, LaneJob, run_job};
 use vms_text::Lane;
 
@@ -21,8 +23,9 @@ pub fn make_job<R: Wait, G: Gate, N: Rule + Copy, P: Rule + Copy>(
         share,
         lane,
         passes,
+        count,
     } = job;
-    make_lane(host, &*share, lane, passes)
+    make_lane(host, &*share, lane, passes, count)
 }
 
 fn make_lane<R: Wait, G: Gate, N: Rule + Copy, P: Rule + Copy>(
@@ -30,18 +33,19 @@ fn make_lane<R: Wait, G: Gate, N: Rule + Copy, P: Rule + Copy>(
     share: &PhaseShare<N, P>,
     lane: Lane,
     passes: LanePasses,
+    count: usize,
 ) -> Result<LaneDone, Memory>
-    requires { MayBeMade N.accepts N.answers P.accepts P.answers
+    requires count { count ≡ length (lane_items lane share.now.script) }
+    requires may { MayBeMade N.accepts N.answers P.accepts P.answers
         (record { share = share.now; job = lane_job lane passes share.now.script }) }
     ensures { WasMade P.answers N.answers
         (record { share = share.now; job = lane_job lane passes share.now.script }) result }
 {
     let rules = Rules::make(share.normal, share.pressure);
-    let counted = CountedLines::of(host.alloc, &share.header, &share.script)?;
     let job = LaneJob {
         lane,
         passes,
-        lines: LaneLines::of(&counted, lane),
+        lines: LaneLines::with_count(&share.script, lane, count),
     };
     run_job(host, &share.tables, &share.header, &rules, job)
 }

@@ -27,10 +27,14 @@ pub struct StandingJob<N, P> {
     pub(crate) share: Arc<PhaseShare<N, P>, Global>,
     pub(crate) lane: Lane,
     pub(crate) passes: LanePasses,
+    /// How many lines the lane has.
+    pub(crate) count: usize,
 }
 
 impl<N, P> Model for StandingJob<N, P> {
+    ghost use Rattle.std.specs.Prelude.{◌≡◌, length};
     ghost use Rattle.std.specs.Arc.{arc_value};
+    ghost use Rattle.vms_world.specs.Common.{lane_items};
     ghost use Rattle.vms_standing_phase.specs.Lanes.{StandingLane, lane_job};
 
     ghost Value = { StandingLane N P };
@@ -39,6 +43,8 @@ impl<N, P> Model for StandingJob<N, P> {
       share = arc_value one.share;
       job = lane_job one.lane one.passes (arc_value one.share).script;
     } };
+
+    ghost invariant = { λ one. one.count ≡ length (lane_items one.lane (arc_value one.share).script) };
 }
 
 impl<N: Rule, P: Rule> Answers<StandingJob<N, P>> for Result<LaneDone, Memory> {

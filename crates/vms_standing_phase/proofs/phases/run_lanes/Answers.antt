@@ -45,10 +45,7 @@ make_all-requires g c =
     let stand : Pairs (Stands share) jobs made =
     subst (λ s. Pairs (Stands s) jobs made) (sym c.requires.same) c.in_ok-standing.ensures in
     may-stand share g.N.Rule.accepts g.N.Rule.answers g.P.Rule.accepts g.P.Rule.answers c.requires.normal
-    c.requires.pressure c.requires.header c.requires.tables
-    (All-weaker (λ (item : Item). IsLineOf share.header (line_of item))
-    (λ (item : Item). IsLaneOf share.header item.lane) (λ item is. is.0) share.script c.requires.start.2.known)
-    jobs made stand c.in_ok-jobs.ensures.may
+    c.requires.pressure c.requires.header c.requires.tables jobs made stand c.in_ok-jobs.ensures.may
 
 pub join_run_jobs-requires-clause-run : goal.join_run_jobs-requires-clause-run
 join_run_jobs-requires-clause-run g c =
