@@ -57,7 +57,8 @@ pub trait HistoryJudge: Drop + Sized {
         requires header { IsHeader header.now }
         requires stands { (segments : List Segment) × (lines : List (List ℕ))
             × Accepts header.now segments lines self.old × (length lines < 1000000) }
-        ensures judged { (segments : List Segment) (lines : List (List ℕ)) → Accepts header.now segments lines self.old →
+        ensures judged { (segments : List Segment) (lines : List (List ℕ)) →
+            Accepts header.now segments lines self.old →
             MatchResult result
             (λ _. rules.Begins header.now segments (lines ++ line.now ∷ [])
             × Accepts header.now segments (lines ++ line.now ∷ []) self.new)

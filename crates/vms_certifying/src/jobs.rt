@@ -1,12 +1,13 @@
 use crate::HistoryJudge;
 use crate::history_lines::is_history_line;
-use crate::printing::{write_fault_line, write_header_line};
+use crate::printing::write_fault_line;
 use crate::trace_parts::TracePart;
 use crate::verdicts::{Verdict, Verdicts};
 use crate::written_parts::WrittenPart;
 use std::alloc::Global;
 use std::mem::replace;
 use vms_base::Memory;
+use vms_command::write_header_line;
 use vms_header::{HeaderReader, HeaderStep, ReadError};
 use vms_phase_checks::EventCause;
 use vms_stream::{Job, Status};

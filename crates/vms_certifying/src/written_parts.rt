@@ -56,8 +56,8 @@ impl<J: HistoryJudge> WrittenPart<J> {
         }
     }
 
-    /// Comes to the end of the input, after which this would be the number of the next line. What was due there is noted
-    /// where the history isn't whole.
+    /// Comes to the end of the input, after which this would be the number of the next line. What was due there is
+    /// noted where the history isn't whole.
     pub(crate) fn end(
         &mut self,
         verdicts: &mut Verdicts,

@@ -1,6 +1,7 @@
-ghost use Rattle.std.specs.Prelude.{◌≡◌, ◌++◌, ◌∷◌, [], IfSome, OnOk};
+ghost use Rattle.std.specs.Prelude.{◌≡◌, ◌++◌, ◌∷◌, [], IfSome, OnErr, OnOk};
 ghost use Rattle.vms_base.specs.Common.{IsHeader};
 ghost use Rattle.vms_line.specs.Common.{IsLineOf, spelled_line};
+ghost use Rattle.vms_text.specs.Common.{Begins};
 ghost use Rattle.vms_check.specs.Checking.{accepted_line};
 
 use vms_base::{Header, Memory};
@@ -17,7 +18,8 @@ pub fn write_accepted(
     requires header { IsHeader header.now }
     requires line { IsLineOf header.now line.now }
     requires spelled { IfSome spelled (λ text. spelled_line header.now line.now ≡ text.now ++ 10 ∷ []) }
-    ensures { OnOk result (out.new.items ≡ out.old.items ++ accepted_line header.now line.now) }
+    ensures ok { OnOk result (out.new.items ≡ out.old.items ++ accepted_line header.now line.now) }
+    ensures err { OnErr result (Begins out.old.items out.new.items) }
 {
     match (line, spelled) {
         (Line::Blank, _) => Ok(()),
@@ -32,7 +34,8 @@ pub fn write_accepted(
 fn spell_line(out: &mut Vec<u8>, header: &Header, line: Line) -> Result<(), Memory>
     requires header { IsHeader header.now }
     requires line { IsLineOf header.now line }
-    ensures { OnOk result (out.new.items ≡ out.old.items ++ spelled_line header.now line) }
+    ensures ok { OnOk result (out.new.items ≡ out.old.items ++ spelled_line header.now line) }
+    ensures err { OnErr result (Begins out.old.items out.new.items) }
 {
     write_line(out, header, &line)
 }
@@ -40,7 +43,8 @@ fn spell_line(out: &mut Vec<u8>, header: &Header, line: Line) -> Result<(), Memo
 /// Appends these bytes, and the one that ends a line.
 #[inline(always)]
 fn copy_line(out: &mut Vec<u8>, text: &[u8]) -> Result<(), Memory>
-    ensures { OnOk result (out.new.items ≡ out.old.items ++ (text.now ++ 10 ∷ [])) }
+    ensures ok { OnOk result (out.new.items ≡ out.old.items ++ (text.now ++ 10 ∷ [])) }
+    ensures err { OnErr result (Begins out.old.items out.new.items) }
 {
     out.extend_from_slice(text)?;
     out.push(b'\n')?;

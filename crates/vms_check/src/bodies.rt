@@ -63,12 +63,14 @@ impl Body for CheckBody {
     }
 }
 
-ghost use Rattle.std.specs.Prelude.{◌≡◌, ◌++◌, OnOk, codes};
+ghost use Rattle.std.specs.Prelude.{◌≡◌, ◌++◌, OnErr, OnOk, codes};
 ghost use Rattle.vms_command.specs.Common.{refused_line};
+ghost use Rattle.vms_text.specs.Common.{Begins};
 
 /// Appends the comment that stands in the place of a line that doesn't count.
 fn write_refused(out: &mut Vec<u8>, number: u32, cause: LineCause) -> Result<(), Memory>
-    ensures { OnOk result (out.new.items ≡ out.old.items ++ (codes "# " ++ refused_line number cause)) }
+    ensures ok { OnOk result (out.new.items ≡ out.old.items ++ (codes "# " ++ refused_line number cause)) }
+    ensures err { OnErr result (Begins out.old.items out.new.items) }
 {
     out.extend_from_slice(b"# ")?;
     write_refused_line(out, number, cause)

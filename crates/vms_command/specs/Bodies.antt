@@ -96,7 +96,7 @@ abbrev pub shown_at_end : {K : Type 0} → (Header → LinesAbove → K → Type
 shown_at_end shows (Heading n stage) = Unit {0}
 shown_at_end shows (Body n header above kept) = shows header above kept
 
--- the same with the outcome of the phase that ends there
+-- what a command shows at the end of a trace, by the outcome of the phase that ends there
 abbrev pub shown_given : {K O : Type 0} → (Header → LinesAbove → K → Option O → Type 0)
     → Waiting (CommandState K) O → Option O → Type 0
 shown_given shows now given = shown_at_end (λ header above kept. shows header above kept given) now.state

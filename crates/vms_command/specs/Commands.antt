@@ -43,6 +43,7 @@ ends_at_judged phase_open _ = false
 abbrev pub status_at_end : ℕ → Status
 status_at_end refused = if nat_lt 0 refused then Refused else Done
 
+-- a command may end with these statuses
 pub MayEnd-status_at_end : (refused : ℕ) → MayEnd (status_at_end refused)
 MayEnd-status_at_end refused = by (nat_lt 0 refused)
   where
@@ -62,20 +63,23 @@ after_head command n stage (Ok (Ends draft)) =
     Body (suc n) (header_of draft) nothing_above (command.begins (header_of draft))
 after_head command n stage (Err cause) = Heading n stage
 
+-- what a line of the header prints, by what was read of it
 abbrev pub printed_head : {K O : Type 0} → TraceCommand K O → ℕ → Result HeadStep HeaderCause → List ℕ
 printed_head command n (Ok (Goes next)) = []
 printed_head command n (Ok (Ends draft)) = command.opens (header_of draft)
 printed_head command n (Err cause) = header_line (record { line = n; cause = cause })
 
+-- the status with which a line of the header stops the command
 abbrev pub refuses : Result HeadStep HeaderCause → Option Status
 refuses (Ok read) = None
 refuses (Err cause) = Some statuses.Header
 
--- whether a phase is open, and which outcomes it may have
+-- whether a phase is open
 abbrev pub phase_at : {K O : Type 0} → TraceCommand K O → CommandState K → Bool
 phase_at command (Heading n stage) = false
 phase_at command (Body n header above kept) = command.phase_open header above kept
 
+-- which outcomes the open phase may have
 abbrev pub allows_at : {K O : Type 0} → TraceCommand K O → CommandState K → O → Type 0
 allows_at command (Heading n stage) = λ outcome. ⊥
 allows_at command (Body n header above kept) = command.Allows header above kept
@@ -98,37 +102,42 @@ abbrev pub line_text : {K O : Type 0} → TraceCommand K O → CommandState K �
 line_text command (Heading n stage) line = Plain (printed_head command n (head_line stage line))
 line_text command (Body n header above kept) line = command.text header n above (judged header above.lines line) kept
 
--- why a command stops at a line: the line is at fault in the header, or it exceeds the limit on lines, on phases or on
--- reports
+-- the status with which line n stops the command: the limit on lines comes before this one
 abbrev pub halted_at : ℕ → Option Status → Option Status
 halted_at n halt = if nat_lt most_lines n then Some TooLong else halt
 
+-- the status where a limit is exceeded
 abbrev pub exceeds : Bool → Option Status
 exceeds over = if over then Some TooLong else None
 
+-- the status with which a line stops the command: it is at fault in the header, or it exceeds the limit on lines, on
+-- phases or on reports
 abbrev pub halts_at : {K : Type 0} → CommandState K → List ℕ → Option Status
 halts_at (Heading n stage) line = halted_at n (refuses (head_line stage line))
 halts_at (Body n header above kept) line =
     halted_at n (exceeds (exceeds_limit above.lines (judged header above.lines line)))
 
--- the text at the end of a trace, and how the command ends there
+-- the text at the end of a trace
 abbrev pub end_text : {K O : Type 0} → TraceCommand K O → CommandState K → Text O
 end_text command (Heading n stage) = Plain (header_line (record { line = n; cause = missing stage }))
 end_text command (Body n header above kept) = command.last header above kept
 
+-- how a command ends at the end of a trace
 abbrev pub ends_as : {K O : Type 0} → TraceCommand K O → CommandState K → Status
 ends_as command (Heading n stage) = statuses.Header
 ends_as command (Body n header above kept) = command.ends above
 
--- with these statuses a line may stop a command, and a command may end
+-- with these statuses a line may stop a command
 MayHalt-if : (over : Bool) (halt : Option Status) → MayHalt halt → MayHalt (if over then Some TooLong else halt)
 MayHalt-if true halt may = tt
 MayHalt-if false halt may = may
 
+-- a line of the header may stop a command with these statuses
 MayHalt-refuses : (read : Result HeadStep HeaderCause) → MayHalt (refuses read)
 MayHalt-refuses (Ok read) = tt
 MayHalt-refuses (Err cause) = tt
 
+-- a line may stop a command with these statuses
 pub MayHalt-halts_at : {K : Type 0} (state : CommandState K) (line : List ℕ) → MayHalt (halts_at state line)
 MayHalt-halts_at (Heading n stage) line = MayHalt-if (nat_lt most_lines n) (refuses (head_line stage line))
     (MayHalt-refuses (head_line stage line))
@@ -136,6 +145,7 @@ MayHalt-halts_at (Body n header above kept) line =
     let over = exceeds_limit above.lines (judged header above.lines line) in
     MayHalt-if (nat_lt most_lines n) (exceeds over) (MayHalt-if over None tt)
 
+-- a command may end so
 pub MayEnd-ends_as : {K O : Type 0} (command : TraceCommand K O) (state : CommandState K)
     → MayEnd (ends_as command state)
 MayEnd-ends_as command (Heading n stage) = tt

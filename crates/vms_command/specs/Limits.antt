@@ -6,13 +6,15 @@ use Rattle.vms_text.specs.declared.acts.Line.{Line}
 use Rattle.vms_text.specs.declared.acts.Line.TheVariants.{Lane, Boundary}
 use Rattle.vms_line.specs.declared.causes.LineCause.{LineCause}
 
--- the most lines of an input, phases that have a lane line, and reports
+-- the most lines of an input
 abbrev pub most_lines : ℕ
 most_lines = 1000000
 
+-- the most phases that have a lane line
 abbrev pub most_phases : ℕ
 most_phases = 10000
 
+-- the most reports
 abbrev pub most_reports : ℕ
 most_reports = 1000
 

@@ -10,6 +10,7 @@ pub record LinesAbove : Type 0 where
   pub lines : List Line
   pub refused : ℕ
 
+-- no line came yet
 abbrev pub nothing_above : LinesAbove
 nothing_above = record { lines = []; refused = 0 }
 

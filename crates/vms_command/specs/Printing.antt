@@ -6,6 +6,7 @@ use Rattle.vms_line.specs.declared.causes.LineCause.{LineCause}
 use Rattle.vms_line.specs.declared.causes.LineCause.TheVariants as line_causes
 use Rattle.vms_header.specs.Common.{Fault}
 
+-- the byte that ends a line
 abbrev pub newline : List ℕ
 newline = 10 ∷ []
 

@@ -14,5 +14,5 @@ mod trace_jobs;
 pub use bodies::Body;
 pub use following::follow;
 pub use laws::writes_texts;
-pub use printing::{write_done_line, write_prefix, write_refused_line};
+pub use printing::{write_done_line, write_header_line, write_prefix, write_refused_line};
 pub use statuses::status_at_end;

@@ -10,11 +10,7 @@ use vms_header::HeaderCause;
 use vms_line::LineCause;
 
 /// Appends `line N: CAUSE`, the one line of a refused header.
-pub(crate) fn write_header_line(
-    out: &mut Vec<u8>,
-    line: u32,
-    cause: HeaderCause,
-) -> Result<(), Memory>
+pub fn write_header_line(out: &mut Vec<u8>, line: u32, cause: HeaderCause) -> Result<(), Memory>
     ensures ok { OnOk result (out.new.items ≡ out.old.items ++ header_line (record { line = line; cause = cause })) }
     ensures err { OnErr result (Begins out.old.items out.new.items) }
 {

@@ -1,4 +1,5 @@
-ghost use Rattle.std.specs.Prelude.{◌≡◌, ◌++◌, length, OnOk};
+ghost use Rattle.std.specs.Prelude.{◌≡◌, ◌++◌, length, OnErr, OnOk};
+ghost use Rattle.vms_text.specs.Common.{Begins};
 ghost use Rattle.vms_groups.specs.GroupTexts.{group_header_line, refused_group_line, value_line};
 
 use itoa::Buffer;
@@ -12,8 +13,9 @@ pub(crate) fn write_header_line(
     line: u32,
     cause: GroupCause,
 ) -> Result<(), Memory>
-    ensures { OnOk result (out.new.items
+    ensures ok { OnOk result (out.new.items
         ≡ out.old.items ++ group_header_line (record { line = line; cause = cause })) }
+    ensures err { OnErr result (Begins out.old.items out.new.items) }
 {
     write_prefix(out, line)?;
     out.extend_from_slice(cause_name(cause))?;
@@ -27,7 +29,8 @@ pub(crate) fn write_refused_line(
     line: u32,
     cause: GroupCause,
 ) -> Result<(), Memory>
-    ensures { OnOk result (out.new.items ≡ out.old.items ++ refused_group_line line cause) }
+    ensures ok { OnOk result (out.new.items ≡ out.old.items ++ refused_group_line line cause) }
+    ensures err { OnErr result (Begins out.old.items out.new.items) }
 {
     write_prefix(out, line)?;
     out.extend_from_slice(b"refused: ")?;
@@ -38,7 +41,8 @@ pub(crate) fn write_refused_line(
 
 /// Appends `line N: value V`.
 pub(crate) fn write_value_line(out: &mut Vec<u8>, line: u32, value: i64) -> Result<(), Memory>
-    ensures { OnOk result (out.new.items ≡ out.old.items ++ value_line line value) }
+    ensures ok { OnOk result (out.new.items ≡ out.old.items ++ value_line line value) }
+    ensures err { OnErr result (Begins out.old.items out.new.items) }
 {
     let mut buffer = Buffer::new();
     write_prefix(out, line)?;

@@ -33,4 +33,4 @@ returns-in_ok-write_header_line-in-Err-Refused g c =
     (subst (λ (error : ReadError). StepsTo read (Err error)) c.in-Err-Refused.field-0-is c.in-Err-Refused.ensures.step)
     (subst (λ (cause : HeaderCause). c.write_header_line.new.out.items ≡ c.args.out.now.items ++ header_line
     (record { line = c.args.number; cause = cause }))
-    c.in-Err-Refused.cause-is c.in_ok-write_header_line-in-Err-Refused.ensures)
+    c.in-Err-Refused.cause-is c.in_ok-write_header_line-in-Err-Refused.ensures.ok)

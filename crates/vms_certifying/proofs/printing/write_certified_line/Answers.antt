@@ -10,8 +10,8 @@ parts-appended out a b c d e first second third fourth last one two three four f
     ∙ ap (λ (l : List ℕ). l ++ d) (three ∙ ap (λ (l : List ℕ). l ++ c) (two ∙ ap (λ (l : List ℕ). l ++ b) one)))
     ∙ simp append_assoc
 
-pub returns : goal.returns
-returns c =
-    parts-appended _ _ _ _ _ _ _ _ _ _ _ c.in_ok-extend_from_slice.ensures.items c.in_ok-write_number.ensures
+pub returns-clause-ok : goal.returns-clause-ok
+returns-clause-ok c =
+    parts-appended _ _ _ _ _ _ _ _ _ _ _ c.in_ok-extend_from_slice.ensures.items c.in_ok-write_number.ensures.ok
     c.in_ok-extend_from_slice-2.ensures.items
-    c.in_ok-write_number-2.ensures c.in_ok-push.ensures.items
+    c.in_ok-write_number-2.ensures.ok c.in_ok-push.ensures.items

@@ -31,4 +31,4 @@ returns-in_ok-write_header_line-in-Err-Refused c =
     c.in-Err-Refused.ensures.step)
     (subst (λ (cause : GroupCause). c.write_header_line.new.out.items ≡ c.args.out.now.items ++ group_header_line
     (record { line = c.args.number; cause = cause }))
-    c.in-Err-Refused.cause-is c.in_ok-write_header_line-in-Err-Refused.ensures)
+    c.in-Err-Refused.cause-is c.in_ok-write_header_line-in-Err-Refused.ensures.ok)

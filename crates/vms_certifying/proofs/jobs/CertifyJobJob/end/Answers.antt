@@ -25,7 +25,7 @@ returns-in_ok-write_header_line-in-Header g c =
     header-ends g.J.HistoryJudge.rules g.J.HistoryJudge.Gathers g.J.HistoryJudge.Accepts c.args.self.now
     c.args.out.now.items c.write_header_line.new.out.items c.in-Header.reader (made_by c.args.verdicts.now)
     c.in-Header.is
-    (c.in_ok-write_header_line-in-Header.ensures ∙ ap (λ (cause : HeaderCause). c.args.out.now.items
+    (c.in_ok-write_header_line-in-Header.ensures.ok ∙ ap (λ (cause : HeaderCause). c.args.out.now.items
     ++ header_line (record { line = c.args.self.now.line; cause = cause })) c.missing.ensures)
 
 pub returns-in_err-write_fault_line-in-Trace : goal.returns-in_err-write_fault_line-in-Trace
@@ -46,7 +46,7 @@ pub returns-in_ok-add-in-Trace : goal.returns-in_ok-add-in-Trace
 returns-in_ok-add-in-Trace g c =
     trace-ends g.J.HistoryJudge.rules g.J.HistoryJudge.Gathers g.J.HistoryJudge.Accepts c.args.self.now
     c.args.out.now.items c.write_fault_line.new.out.items c.in-Trace.field-0 c.args.verdicts.now c.add.new.self
-    c.in-Trace.is c.in_ok-add-in-Trace.ensures c.in_ok-write_fault_line-in-Trace.ensures
+    c.in-Trace.is c.in_ok-add-in-Trace.ensures c.in_ok-write_fault_line-in-Trace.ensures.ok
 
 pub returns-in-Written : goal.returns-in-Written
 returns-in-Written g c =

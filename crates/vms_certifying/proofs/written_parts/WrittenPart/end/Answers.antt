@@ -38,7 +38,7 @@ returns-in_ok-add-in-Some g c =
     (Whole c.in-Some.field-0.phases c.in-Some.field-0.events) c.in_ok-add-in-Some.ensures c.status_at_end.result
     (λ first texts lines keeps. c.in-Some.ensures (segments_in part.header first texts) lines keeps.accepts)
     (λ first texts lines keeps. c.status_at_end.ensures ∙ ap status_at_end keeps.refused)
-    (λ first texts lines number. c.in_ok-write_certified_line-in-Some.ensures)
+    (λ first texts lines number. c.in_ok-write_certified_line-in-Some.ensures.ok)
 
 pub returns-in_err-write_certified_line-in-Some : goal.returns-in_err-write_certified_line-in-Some
 returns-in_err-write_certified_line-in-Some g c =
@@ -65,7 +65,7 @@ returns-in_ok-add-in-None g c =
     (Refused Incomplete) c.in_ok-add-in-None.ensures statuses.NotCertified
     (λ first texts lines keeps. (refl, c.in-None.ensures (segments_in part.header first texts) lines keeps.accepts))
     (λ first texts lines keeps. refl)
-    (λ first texts lines number. c.in_ok-write_fault_line-in-None.ensures
+    (λ first texts lines number. c.in_ok-write_fault_line-in-None.ensures.ok
     ∙ ap (λ (n : ℕ). c.args.out.now.items ++ fault_line n Incomplete) number)
 
 pub returns-in_err-write_fault_line-in-None : goal.returns-in_err-write_fault_line-in-None

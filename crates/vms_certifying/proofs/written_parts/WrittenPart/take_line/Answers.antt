@@ -49,7 +49,7 @@ returns-in_ok-add-in-Err-Fault g c =
     written-refused rules g.J.HistoryJudge.Gathers g.J.HistoryJudge.Accepts c.args.number part part'
     c.args.line.now c.args.out.now.items c.write_fault_line.new.out.items c.args.verdicts.now
     c.add-in-Err-Fault.new.self c.requires.within c.in-Err-Fault.cause c.in_ok-add-in-Err-Fault.ensures
-    c.in_ok-write_fault_line-in-Err-Fault.ensures
+    c.in_ok-write_fault_line-in-Err-Fault.ensures.ok
     (λ segments lines accepts. subst (λ (error : JudgeError). IsJudgeError rules part.header segments lines
     c.args.line.now error) c.in-Err-Fault.field-0-is (c.in-Err-Fault.ensures.judged segments lines accepts))
 

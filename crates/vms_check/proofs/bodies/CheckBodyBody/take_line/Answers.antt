@@ -18,7 +18,7 @@ pub returns-in-Ok : goal.returns-in-Ok
 returns-in-Ok c =
     BodyTakes-plain checking IsPlain-checking (λ header above kept. Unit {0}) (λ header above kept. Unit {0}) None
     c.args.header.now c.args.number c.args.judged.now.said c.write_accepted.result c.args.out.now.items
-    c.write_accepted.new.out.items c.write_accepted.ensures
+    c.write_accepted.new.out.items c.write_accepted.ensures.ok
     (λ prints above kept here judged_is. (
       tt,
       prints ∙ ap (λ (r : Result Line LineCause).
@@ -30,7 +30,7 @@ pub returns-in-Err : goal.returns-in-Err
 returns-in-Err c =
     BodyTakes-plain checking IsPlain-checking (λ header above kept. Unit {0}) (λ header above kept. Unit {0}) None
     c.args.header.now c.args.number c.args.judged.now.said c.write_refused.result c.args.out.now.items
-    c.write_refused.new.out.items c.write_refused.ensures
+    c.write_refused.new.out.items c.write_refused.ensures.ok
     (λ prints above kept here judged_is. (
       tt,
       prints ∙ ap (λ (r : Result Line LineCause).

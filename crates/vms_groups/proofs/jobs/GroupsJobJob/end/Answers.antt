@@ -19,7 +19,7 @@ pub returns-in_ok-write_header_line-in-Header : goal.returns-in_ok-write_header_
 returns-in_ok-write_header_line-in-Header g c =
     header-ends c.args.self.now c.in-Header.reader (g.E.GroupEngine.made c.args.engine.now) c.args.out.now.items
     c.write_header_line.new.out.items c.in-Header.is
-    (c.in_ok-write_header_line-in-Header.ensures ∙ ap (λ (cause : GroupCause). c.args.out.now.items
+    (c.in_ok-write_header_line-in-Header.ensures.ok ∙ ap (λ (cause : GroupCause). c.args.out.now.items
     ++ group_header_line (record { line = c.args.self.now.line; cause = cause })) c.missing.ensures)
 
 pub returns-in-Body : goal.returns-in-Body

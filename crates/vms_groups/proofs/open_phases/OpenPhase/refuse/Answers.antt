@@ -21,7 +21,7 @@ returns-then-is_empty c =
     let out = c.args.out.now.items in
     λ header made. TakesJudged-going_on header c.args.number (Err c.args.cause) c.args.self.now c.args.self.now made
     c.write_refused_line.result out c.write_refused_line.new.out.items (λ kept. refl)
-    (then_ok c.write_refused_line.result c.write_refused_line.ensures
+    (then_ok c.write_refused_line.result c.write_refused_line.ensures.ok
     (λ printed kept texts stands may. record {
       prints = printed ∙ sym (ap (λ (ts : List (Text PastGroupPhase)). out
           ++ printed_now ts (Plain (refused_group_line c.args.number c.args.cause))) (stands.tells.none none));

@@ -21,7 +21,7 @@ pub returns-in_ok-write_accepted-in-Ok : goal.returns-in_ok-write_accepted-in-Ok
 returns-in_ok-write_accepted-in-Ok c =
     rw c.in-Ok.is (BodyTakes-line c.args.self.now c.args.header.now c.take.new.self c.args.number (Ok c.in-Ok.line) _ _
     c.take.result c.args.out.now.items c.write_accepted.new.out.items c.take.ensures
-    c.in_ok-write_accepted-in-Ok.ensures)
+    c.in_ok-write_accepted-in-Ok.ensures.ok)
 
 pub returns-in-Err : goal.returns-in-Err
 returns-in-Err c =
