@@ -30,7 +30,7 @@ arguments, and each definition to which they lead. The top layer is to be read f
 sentence tells each, whose definitions stand in the appendix of that name. To read the contracts no other definition of
 this repository is needed. What the kit's library defines, `Rattle.std`, is told by the kit's own guides. The page is
 cut from the sources by `python3 .ci/headline.py`, and the repository's own checks fail where it is stale, or where its
-top layer grows past 400 definitions or 1,600 lines.
+top layer grows past 400 definitions, or 1,600 lines of these without comments.
 """
 # The subjects at which the top layer ends, each with its sentence and the files that tell it, as CRATE/FILE.
 LEAVES = [
@@ -66,13 +66,18 @@ LEAVES = [
      r"vms_pcpu_core/"),
     ("Trees of groups", "The state of a tree of groups, its steps, and what each asks.", r"vms_group_core/"),
     ("Group lines", "How the header and the lines of a trace of groups are read and judged.", r"vms_group_lines/"),
+    ("Runs of groups", "A phase of `groups` is one legal history of its lanes' lines, and each line and each report prints "
+     "what that history tells.", r"vms_groups/(PastPhases|GroupTexts|MadePhases|GroupLimits)|vms_group_phase/"),
     ("Certifying", "Line by line `certify` goes through a header, a trace and the history after it, and gives each line "
      "of the history a verdict.", r"vms_certifying/(Certifying|HistoryLines|JobStates|Judging|Printing)"),
+    ("Certified histories", "A history of a text is certified where each of its phases is legal, made of the lines of its "
+     "lanes by the kernel's rules of thresholds, and whole.",
+     r"vms_certifying/(Certificates|HistoryRules)|vms_written/|vms_history_judge/|vms_walks/|vms_certify/"),
     ("Copies of traces", "Line by line `record` copies a trace as `check` writes it, without remarks, and keeps its "
      "parts: the lane lines from each boundary line on.", r"vms_trace_parts/"),
     ("Recorded histories", "Of each phase `record` writes the events of file order: a pass begins for each lane, the "
      "lines follow one another and meet no other pass, and the passes end.",
-     r"vms_recorded/|vms_recording/|vms_phase_lines/"),
+     r"vms_record/Histories|vms_recorded/|vms_recording/|vms_phase_lines/"),
     ("Lines of a history", "A line of a history begins a phase, or is one event in its one spelling, or is ignored; "
      "any other is out of form.", r"vms_written_lines/"),
     ("Lines at fault", "Which line of a history is the first at fault, and for which of four causes.",

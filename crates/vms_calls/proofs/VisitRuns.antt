@@ -1,5 +1,5 @@
--- For other crates too: the steps that visit zones, and those that set the thresholds of nodes, meet their conditions in
--- a row.
+-- For other crates too: the steps that visit zones, and those that set the thresholds of nodes, meet their conditions
+-- in a row.
 use Rattle.std.proofs.Common.{◌≡◌, ℕ, suc, zero, ◌+◌, ◌<◌, ◌≤◌, Bool, true, false, nat_eq, if◌then◌else◌, List, [], ◌∷◌}
 use Rattle.std.proofs.Common.{◌++◌, length, map, get_or, Option, None, inl, inr, ⊎_elim, refl, sym, ap, ◌∙◌, subst}
 use Rattle.std.proofs.Common.{arith, eq-eqb, length-append}

@@ -1,6 +1,6 @@
 ghost use Rattle.std.specs.Prelude.{List, map};
 ghost use Rattle.vms_file_order.specs.Common.{IsFileOrderPhase, MakeInAnyOrder};
-ghost use Rattle.vms_walks.specs.Rules.{ByFormula};
+ghost use Rattle.vms_walks.specs.Rules.{IsExactly};
 ghost use Rattle.vms_world.specs.Common.{Header, IsHeader, IsWorldRun, Item, Segment, TableHistories};
 ghost use Rattle.vms_world.specs.Common.{normal_threshold_of, pressure_threshold_of};
 ghost use Rattle.vms_world.specs.declared.worlds.World.{World};
@@ -17,16 +17,16 @@ use vms_written_rules::made_phases_are_written;
 /// events of its phases are written phases, and those of its runs are written histories.
 pub fn made_histories_are_certified<R: ThresholdRules>()
     ensures phases { (header : Header) (w : World) (items : List Item) (hs : TableHistories) →
-        Allows (ByFormula pressure_threshold_of) R.pressure → Allows (ByFormula normal_threshold_of) R.normal →
+        Allows (IsExactly pressure_threshold_of) R.pressure → Allows (IsExactly normal_threshold_of) R.normal →
         MakeInAnyOrder header R.pressure R.normal w items hs →
         IsWrittenPhase header ⟦<LineWalk as LaneWalk>⟧.pressure ⟦<LineWalk as LaneWalk>⟧.normal w.pages items hs.pages }
     ensures file_order { (header : Header) (w : World) (items : List Item) (hs : TableHistories) →
-        Allows (ByFormula pressure_threshold_of) R.pressure → Allows (ByFormula normal_threshold_of) R.normal →
+        Allows (IsExactly pressure_threshold_of) R.pressure → Allows (IsExactly normal_threshold_of) R.normal →
         IsFileOrderPhase header R.pressure R.normal w items hs →
         IsWrittenPhase header ⟦<LineWalk as LaneWalk>⟧.pressure ⟦<LineWalk as LaneWalk>⟧.normal w.pages items hs.pages }
     ensures runs { (header : Header) (segments : List Segment) (hss : List TableHistories) (last : World) →
-        IsHeader header → Allows (ByFormula pressure_threshold_of) R.pressure →
-        Allows (ByFormula normal_threshold_of) R.normal → IsWorldRun header R.pressure R.normal segments hss last →
+        IsHeader header → Allows (IsExactly pressure_threshold_of) R.pressure →
+        Allows (IsExactly normal_threshold_of) R.normal → IsWorldRun header R.pressure R.normal segments hss last →
         IsWrittenHistory header ⟦<LineWalk as LaneWalk>⟧.pressure ⟦<LineWalk as LaneWalk>⟧.normal segments
         (map (λ hs. hs.pages) hss) }
 {

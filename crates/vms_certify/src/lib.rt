@@ -1,5 +1,5 @@
-//! Whether a written history of page events is one of a text: its checker, and the command that asks it, by the kernel's
-//! rules of thresholds.
+//! Whether a written history of page events is one of a text: its checker, and the command that asks it, by the
+//! kernel's rules of thresholds.
 #![tactic(auto)]
 
 mod laws;

@@ -1,5 +1,5 @@
-//! The steps of changes, of looks at a value and of tests. Each kind of call has a function of its own, so that only its
-//! own positions take room where a step is made.
+//! The steps of changes, of looks at a value and of tests. Each kind of call has a function of its own, so that only
+//! its own positions take room where a step is made.
 
 ghost use Rattle.std.specs.Prelude.{◌≡◌, ℕ, false, IsTrue};
 ghost use Rattle.vms_calls.specs.Common.{Header as HeaderOf, IsCounter, IsLayout, IsZone, WaterMark};
@@ -13,7 +13,8 @@ use vms_base::{CounterId, ItemId, Layout, PlaceId};
 use vms_core::Step;
 use vms_cursors::{Change, ChangePosition, LoadPosition, SnapshotPosition, TestPosition};
 
-/// Goes on by a step of a change, if this is the step that is due: whether it went on. Where it didn't, nothing changes.
+/// Goes on by a step of a change, if this is the step that is due: whether it went on. Where it didn't, nothing
+/// changes.
 pub(crate) fn change_on(
     at: &mut ChangePosition,
     change: &Change,

@@ -91,7 +91,8 @@ impl ChangePosition {
 /// The addition to the global value, where the change carries something.
 fn due_addition(change: &Change, t: u32, list: &Diffs) -> Option<DueStep>
     ensures due { (layout : Shape) → IfSome result (λ due. IsDue (change_at layout change.now (Won t list.now)) due) }
-    ensures ended { (layout : Shape) → IsNone result → HasEnded (change_at layout change.now (Won t list.now)) (tt {0}) }
+    ensures ended { (layout : Shape) → IsNone result →
+        HasEnded (change_at layout change.now (Won t list.now)) (tt {0}) }
 {
     let amount = amount(change, t, list);
     if amount == 0 {
@@ -131,8 +132,8 @@ fn after_found(
     step: Step,
 ) -> Option<ChangePosition>
     requires { IsCounter layout.now change.now.counter.number }
-    ensures goes { IfSome result
-        (λ later. GoesOn (change_at layout.now change.now (Found t list)) step (change_at layout.now change.now later)) }
+    ensures goes { IfSome result (λ later. GoesOn (change_at layout.now change.now (Found t list)) step
+        (change_at layout.now change.now later)) }
     ensures stops { IsNone result → Stops (change_at layout.now change.now (Found t list)) step }
 {
     match list_in(change, t, step) {
@@ -152,8 +153,8 @@ fn after_loss(
 ) -> Option<ChangePosition>
     requires counter { IsCounter layout.now change.now.counter.number }
     requires no_put { (w : Diffs) → Put change.now.counter w t change.now.delta change.now.mode ≡ step → ⊥ }
-    ensures goes { IfSome result
-        (λ later. GoesOn (change_at layout.now change.now (Found t list)) step (change_at layout.now change.now later)) }
+    ensures goes { IfSome result (λ later. GoesOn (change_at layout.now change.now (Found t list)) step
+        (change_at layout.now change.now later)) }
     ensures stops { IsNone result → Stops (change_at layout.now change.now (Found t list)) step }
 {
     match missed_in(layout.group(change.counter), step) {
@@ -201,8 +202,8 @@ fn after_added(
     list: Diffs,
     step: Step,
 ) -> Option<ChangePosition>
-    ensures goes { IfSome result
-        (λ later. GoesOn (change_at layout.now change.now (Added t list)) step (change_at layout.now change.now later)) }
+    ensures goes { IfSome result (λ later. GoesOn (change_at layout.now change.now (Added t list)) step
+        (change_at layout.now change.now later)) }
     ensures stops { IsNone result → Stops (change_at layout.now change.now (Added t list)) step }
 {
     let carried = amount(change, t, &list);

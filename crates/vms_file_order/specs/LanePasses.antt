@@ -25,11 +25,12 @@ abbrev pub MayOwnEach : {F K S : Type 0} → Machine F K S → F → List Lane �
 MayOwnEach machine facts lanes = All (λ lane. machine.MayOwn facts (owner_of lane)) lanes
 
 module _ {K : Type 0} {role : K → Role} (passes : PassSteps K role) where
-  -- the steps that begin a pass for each of these lanes, the first under this number, and those that end them
+  -- the steps that begin a pass for each of these lanes, the first under this number
   abbrev pub begins_from : ℕ → List Lane → List K
   begins_from n [] = []
   begins_from n (lane ∷ lanes) = passes.begin n (owner_of lane) ∷ begins_from (suc n) lanes
 
+  -- the steps that end the passes of these lanes, the first under this number
   abbrev pub ends_from : ℕ → List Lane → List K
   ends_from n [] = []
   ends_from n (lane ∷ lanes) = passes.end n ∷ ends_from (suc n) lanes

@@ -10,7 +10,7 @@ use Rattle.vms_pcpu_core.specs.Steps as pcpu_steps
 use Rattle.vms_pcpu_core.specs.declared.steps.PcpuStep.TheVariants as percpu
 use Rattle.vms_file_order.specs.LanePasses.{PassSteps}
 
--- in each table a Split begins a pass and a Join ends one
+-- in the page counters a Split begins a pass and a Join ends one
 abbrev pub page_passes : PassSteps Step page_steps.role
 page_passes = record {
   begin = λ q who. page.Split q who;
@@ -19,6 +19,7 @@ page_passes = record {
   ends = λ q. refl;
 }
 
+-- in the event counters a Split begins a pass and a Join ends one
 abbrev pub event_passes : PassSteps EventStep event_steps.role
 event_passes = record {
   begin = λ q who. event.Split q who;
@@ -27,6 +28,7 @@ event_passes = record {
   ends = λ q. refl;
 }
 
+-- in the percpu counters a Split begins a pass and a Join ends one
 abbrev pub pcpu_passes : PassSteps PcpuStep pcpu_steps.role
 pcpu_passes = record {
   begin = λ q who. percpu.Split q who;

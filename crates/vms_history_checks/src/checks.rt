@@ -117,10 +117,10 @@ impl<W: LaneWalk> HistoryCheck<W> {
         })
     }
 
-    /// Appends `due: ` and the line that is due where this line is at fault, or where the input ends if there is none: of
-    /// a caller whose pass lives the event that is due of it, else that of the first lane whose lines aren't over, else
-    /// `phase`, or `nothing` where no phase is left. Nothing is appended where a number can't be told. No clause speaks
-    /// of it.
+    /// Appends `due: ` and the line that is due where this line is at fault, or where the input ends if there is none:
+    /// of a caller whose pass lives the event that is due of it, else that of the first lane whose lines aren't over,
+    /// else `phase`, or `nothing` where no phase is left. Nothing is appended where a number can't be told. No clause
+    /// speaks of it.
     pub fn push_due(
         &self,
         header: &Header,

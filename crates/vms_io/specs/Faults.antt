@@ -11,7 +11,8 @@ abbrev pub CountsFaults : {A E : Type 0} → ℕ → ℕ → Result A E → Type
 CountsFaults before now result = MatchResult result (λ _. now ≡ before) (λ _. now ≡ one_call_more before)
 
 -- one call failed, no call failed before it, no call came after it, and from it on no byte was moved. `told` is what is
--- left in a source, or what was written to a sink. `failing` is the source or the sink as the call that failed found it
+-- left in a source, or what was written to a sink. `failing` is a source or a sink of which this holds: that it is the
+-- one that the failing call found rests on the caller, which is generic in it
 pub record LastFails {D : Type 0} (told : D → Option (List ℕ)) (faults calls : D → ℕ) (before now : D) : Type 0 where
   pub failing : D
   pub none_before : faults failing ≡ faults before

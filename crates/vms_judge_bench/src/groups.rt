@@ -28,8 +28,8 @@ pub(crate) fn facts(alloc: Global) -> Result<GroupFacts> {
     })
 }
 
-/// The step of a pass in its round: it changes a group by 5, takes that, and adds it to the group's value and to what is
-/// pending for its parent.
+/// The step of a pass in its round: it changes a group by 5, takes that, and adds it to the group's value and to what
+/// is pending for its parent.
 fn step(cpu: CpuId, round: u32) -> GroupStep {
     let group = 1 + round / 4 % CHILDREN;
     match round % 4 {

@@ -24,7 +24,8 @@ pub(crate) fn facts(alloc: Global) -> Result<PcpuFacts> {
     })
 }
 
-/// The step of a pass in its round: it adds 5 to its local part, reads it, takes 5 off again, and reads the shared part.
+/// The step of a pass in its round: it adds 5 to its local part, reads it, takes 5 off again, and reads the shared
+/// part.
 fn step(cpu: CpuId, round: u32) -> PcpuStep {
     let counter = PcpuId {
         number: round / 4 % COUNTERS,

@@ -9,7 +9,7 @@ use Rattle.vms_core.specs.Pages.{History}
 use Rattle.vms_own_acts.specs.Common.{IsHistoryFor}
 use Rattle.vms_own_acts.proofs.OwnRows.{acts-of_own, acts-own}
 use Rattle.vms_phase_checks.specs.Common.{IsAloneIn}
-use Rattle.vms_walks.specs.Rules.{ByFormula}
+use Rattle.vms_walks.specs.Rules.{IsExactly}
 use Rattle.vms_walks.specs.Walks.{IsWalkWithin, StandsAt}
 use Rattle.vms_walks.specs.declared.walks.Walk.{Walk}
 use Rattle.vms_walks.proofs.WalkAlong.{stands-others}
@@ -41,7 +41,7 @@ min-within : (a : ℕ) → 1 ≤ a → (1 ≤ min most_threshold a) × (min most
 min-within a some = (grind arith, grind arith)
 
 -- `calculate_normal_threshold` gives thresholds
-pub exact-gives : GivesThresholds (ByFormula normal_threshold_of)
+pub exact-gives : GivesThresholds (IsExactly normal_threshold_of)
 exact-gives size online t valid least most answered =
     let within = min-within (2 * bits_of online * (1 + bits_of (size.managed / 2 ^ 15)))
     (threshold-least (bits_of online) (bits_of (size.managed / 2 ^ 15)) (bits-least 63 online least)) in
@@ -49,15 +49,15 @@ exact-gives size online t valid least most answered =
 
 -- its rule answers what it computes, and nothing else
 pub exact-is_formula : (size : ZoneSize) (online t : ℕ) → IsValidSize size → 1 ≤ online → online ≤ 128
-    → ByFormula normal_threshold_of size online t ↔ (t ≡ normal_threshold_of size online)
+    → IsExactly normal_threshold_of size online t ↔ (t ≡ normal_threshold_of size online)
 exact-is_formula size online t valid least most = (λ is. is, λ is. is)
 
 module _ (header : Header) (base : State) (lane : Lane) (p : ℕ) where
   abbrev pressure : ZoneSize → ℕ → ℕ → Type 0
-  pressure = ByFormula pressure_threshold_of
+  pressure = IsExactly pressure_threshold_of
 
   abbrev normal : ZoneSize → ℕ → ℕ → Type 0
-  normal = ByFormula normal_threshold_of
+  normal = IsExactly normal_threshold_of
 
   -- the same of a history, in the words of walks
   pub for-alone : (h : History) → IsAloneIn header base lane p h → IsHistoryFor header base lane p h

@@ -1,5 +1,5 @@
-//! The walk along a lane's lines by which the check of a written phase goes: under the kernel's rules of thresholds, with
-//! what the registers of the page counters show.
+//! The walk along a lane's lines by which the check of a written phase goes: under the kernel's rules of thresholds,
+//! with what the registers of the page counters show.
 #![tactic(auto)]
 
 mod line_walks;

@@ -17,15 +17,15 @@ pub struct LineWalk {
 impl LaneWalk for LineWalk {
     ghost use Rattle.vms_world.specs.Common.{normal_threshold_of, pressure_threshold_of};
     ghost use Rattle.vms_walks.specs.Walks.{IsWalkWithin, StandsAt};
-    ghost use Rattle.vms_walks.specs.Rules.{ByFormula};
+    ghost use Rattle.vms_walks.specs.Rules.{IsExactly};
     ghost use Rattle.vms_line_walks.specs.ExactRules.{acts-by_own, exact-gives, exact-is_formula, walks-stand};
 
-    ghost pressure = { ByFormula pressure_threshold_of };
+    ghost pressure = { IsExactly pressure_threshold_of };
 
-    ghost normal = { ByFormula normal_threshold_of };
+    ghost normal = { IsExactly normal_threshold_of };
 
     ghost Stands = { λ header base lane p acts h walk.
-        StandsAt header base (ByFormula pressure_threshold_of) (ByFormula normal_threshold_of) lane p acts walk.walk h
+        StandsAt header base (IsExactly pressure_threshold_of) (IsExactly normal_threshold_of) lane p acts walk.walk h
         × IsWalkWithin header.layout lane acts walk.walk };
 
     fn begin() -> LineWalk {

@@ -15,8 +15,8 @@ use vms_words::{Caller, PageTable};
 /// Tests whether a zone has more free pages than a watermark asks for, for a request that may use the zones of its node
 /// up to the zone index `most` (`zone_watermark_ok_safe` of mm/page_alloc.c at order 0). The zone's drift mark is
 /// loaded before and after its free pages. Where it was set in between, or they are below it, the free pages are a
-/// snapshot. In Linux 6.1 `compaction_ready` and `pgdat_balanced` of mm/vmscan.c alone test so; the page allocator tests
-/// by `zone_watermark_fast` and `zone_watermark_ok`, which take the value as it is.
+/// snapshot. In Linux 6.1 `compaction_ready` and `pgdat_balanced` of mm/vmscan.c alone test so; the page allocator
+/// tests by `zone_watermark_fast` and `zone_watermark_ok`, which take the value as it is.
 ///
 /// An answer without a snapshot, yes or no, tells of the moment when the free pages were loaded. Where they aren't 0,
 /// the zone truly had at least as many then, less the zone's slack and the negative amounts that callers carried. It

@@ -2,7 +2,7 @@
 use Rattle.std.proofs.Common.{◌≡◌, ℕ, ◌≤◌, List, get_or, arith, subst}
 use Rattle.std.specs.Prelude.{Result, Ok, Err, IfOk}
 use Rattle.std.proofs.lemmas.List.Elements.{All-get_or}
-use Rattle.vms_walks.specs.Rules.{ByFormula}
+use Rattle.vms_walks.specs.Rules.{IsExactly}
 use Rattle.vms_world.specs.Common.{AreAnswers, Header, IsHeader, IsValidSize, IsZone, Memory, State, ZoneSize}
 use Rattle.vms_world.specs.Common.{bare_pages, count_online, normal_threshold_of, refreshed, size_at}
 use Rattle.vms_page_crossings.specs.Crossings.{GoesByKernel}
@@ -11,7 +11,7 @@ abbrev no_size : ZoneSize
 no_size = record { managed = 0; min = 0; low = 0; high = 0 }
 
 abbrev pub by_kernel : ZoneSize → ℕ → ℕ → Type 0
-by_kernel = ByFormula normal_threshold_of
+by_kernel = IsExactly normal_threshold_of
 
 module _ (header : Header) (valid : IsHeader header) (online : ℕ) (least : 1 ≤ online) (most : online ≤ 128)
     (zones : List ℕ) where

@@ -2,7 +2,7 @@
 use Rattle.std.specs.Prelude.{◌≡◌, ℕ, ◌≤◌, Ok}
 use Rattle.vms_text.specs.declared.acts.Boundary.{Boundary as BoundaryOf}
 use Rattle.vms_text.specs.declared.acts.Line.TheVariants.{Boundary}
-use Rattle.vms_walks.specs.Rules.{ByFormula}
+use Rattle.vms_walks.specs.Rules.{IsExactly}
 use Rattle.vms_world.specs.Common.{Header, IsLineOf, IsValidSize, Start, State, ZoneSize, allowed_from}
 use Rattle.vms_world.specs.Common.{normal_threshold_of}
 use Rattle.vms_written_states.specs.PageStarts.{IsPageStart}
@@ -11,7 +11,7 @@ use Rattle.vms_written_states.specs.PageStarts.{IsPageStart}
 -- else
 abbrev pub GoesByKernel : (ZoneSize → ℕ → ℕ → Type 0) → Type 0
 GoesByKernel answers = (size : ZoneSize) (online t : ℕ) → IsValidSize size → 1 ≤ online → online ≤ 128
-    → answers size online t → ByFormula normal_threshold_of size online t
+    → answers size online t → IsExactly normal_threshold_of size online t
 
 -- a boundary line counts after a start of these page counters
 abbrev pub MayCrossPages : Header → BoundaryOf → State → Type 0

@@ -1,6 +1,6 @@
 ghost use Rattle.std.specs.Prelude.{◌≡◌, ℕ, List, IfOk};
 ghost use Rattle.vms_text.specs.declared.acts.Boundary.TheVariants.{Online};
-ghost use Rattle.vms_walks.specs.Rules.{ByFormula};
+ghost use Rattle.vms_walks.specs.Rules.{IsExactly};
 ghost use Rattle.vms_world.specs.Common.{AreAnswers, IsHeader, IsThresholdRule, bare_pages, normal_threshold_of};
 ghost use Rattle.vms_world.specs.Common.{refreshed};
 ghost use Rattle.vms_written.specs.Common.{CrossesPages};
@@ -17,7 +17,7 @@ use vms_text::Boundary;
 pub fn first_pages(alloc: Global, header: &Header) -> Result<State, Memory>
     requires { IsHeader header.now }
     ensures { IfOk result (λ s. (zones : List ℕ)
-        × AreAnswers header.now (ByFormula normal_threshold_of) header.now.layout.cpus zones
+        × AreAnswers header.now (IsExactly normal_threshold_of) header.now.layout.cpus zones
         × (s ≡ refreshed header.now zones (bare_pages header.now))) }
 {
     first_by(
@@ -39,7 +39,7 @@ fn first_by<N: Rule, P: Rule>(
     requires pressure { IsThresholdRule (P.accepts pressure) (P.answers pressure) }
     requires exact { GoesByKernel (N.answers normal) }
     ensures { IfOk result (λ s. (zones : List ℕ)
-        × AreAnswers header.now (ByFormula normal_threshold_of) header.now.layout.cpus zones
+        × AreAnswers header.now (IsExactly normal_threshold_of) header.now.layout.cpus zones
         × (s ≡ refreshed header.now zones (bare_pages header.now))) }
 {
     start_pages(alloc, header, &Rules::make(normal, pressure))
@@ -49,7 +49,7 @@ fn first_by<N: Rule, P: Rule>(
 pub fn cross(pages: &mut State, header: &Header, boundary: Boundary)
     requires header { IsHeader header.now }
     requires may { MayCrossPages header.now boundary pages.old }
-    ensures { CrossesPages header.now (ByFormula normal_threshold_of) boundary pages.old pages.new }
+    ensures { CrossesPages header.now (IsExactly normal_threshold_of) boundary pages.old pages.new }
 {
     match boundary {
         Boundary::Offline(cpu) => pages.cpu.set(cpu.number as usize, CpuState::Dead),
@@ -64,7 +64,7 @@ pub fn cross(pages: &mut State, header: &Header, boundary: Boundary)
 fn bring_up(pages: &mut State, header: &Header, cpu: CpuId)
     requires header { IsHeader header.now }
     requires may { MayCrossPages header.now (Online cpu) pages.old }
-    ensures { CrossesPages header.now (ByFormula normal_threshold_of) (Online cpu) pages.old pages.new }
+    ensures { CrossesPages header.now (IsExactly normal_threshold_of) (Online cpu) pages.old pages.new }
 {
     bring_up_by(
         pages,
@@ -87,7 +87,7 @@ fn bring_up_by<N: Rule, P: Rule>(
     requires normal { IsThresholdRule (N.accepts normal) (N.answers normal) }
     requires pressure { IsThresholdRule (P.accepts pressure) (P.answers pressure) }
     requires exact { GoesByKernel (N.answers normal) }
-    ensures { CrossesPages header.now (ByFormula normal_threshold_of) (Online cpu) pages.old pages.new }
+    ensures { CrossesPages header.now (IsExactly normal_threshold_of) (Online cpu) pages.old pages.new }
 {
     pages.cpu.set(cpu.number as usize, CpuState::Online);
     refresh(pages, header, &Rules::make(normal, pressure));

@@ -61,8 +61,8 @@ pub fn run_lanes<R: Threads + Wait + Sync, G: Gate, N: Rule + Sync, P: Rule + Sy
     join_run_jobs(host.alloc, &plan, rules, mains, results)
 }
 
-/// Ends the passes of the lanes of a plan, whose jobs were run with these results, in their order. Returns the lanes. If
-/// no memory was found for a lane, so it is here.
+/// Ends the passes of the lanes of a plan, whose jobs were run with these results, in their order. Returns the lanes.
+/// If no memory was found for a lane, so it is here.
 pub fn join_run_jobs<N: Rule, P: Rule>(
     alloc: Global,
     plan: &Plan<'_>,

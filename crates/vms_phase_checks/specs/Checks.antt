@@ -44,8 +44,8 @@ abbrev pub MayCheck : {W : Type 0} (Stands : Header → State → Lane → ℕ �
 MayCheck Stands pressure normal header check = (s : State) × (items : List Item) × (h : History)
     × FitsSomewhere header items × Checks Stands pressure normal header s items h check
 
--- what is told of a caller's pass: nothing is due where it has made all acts of its lane, or doesn't live, and otherwise
--- it may go on with this step alone, up to what the step tells
+-- what is told of a caller's pass: nothing is due where it has made all acts of its lane, or doesn't live, and
+-- otherwise it may go on with this step alone, up to what the step tells
 module _ (pressure normal : ZoneSize → ℕ → ℕ → Type 0) (header : Header) (s : State) (items : List Item) (h : History)
     (caller : ℕ) where
   abbrev pub IsDueOf : Option DueStep → Type 0

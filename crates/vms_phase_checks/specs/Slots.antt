@@ -1,5 +1,5 @@
--- Which lane a pass is of, by the CPU that it owns, and the slot of a lane: the number of its CPU, or the number of CPUs
--- for the control lane.
+-- Which lane a pass is of, by the CPU that it owns, and the slot of a lane: the number of its CPU, or the number of
+-- CPUs for the control lane.
 use Rattle.std.specs.Prelude.{◌≡◌, ℕ, ◌+◌, ◌<◌, ◌≤◌, List, [], length, slice_index_or, Option, Some, None}
 use Rattle.vms_world.specs.Common.{Act, CpuId, Item, Lane, Cpu, Control, acts_of}
 use Rattle.vms_registers.specs.Slots.{owner_of}

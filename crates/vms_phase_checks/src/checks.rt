@@ -70,9 +70,10 @@ impl<W: LaneWalk> PhaseCheck<W> {
         ensures { (s : StateOf) (items : List ItemOf) (h : History) → FitsSomewhere header.now items →
             Checks W.Stands W.pressure W.normal header.now s items h self.old →
             MatchResult result
-            (λ _. (taken : StepOf) × (step_of step.now ≡ Some taken) × Checks W.Stands W.pressure W.normal header.now s items
-            (record { caller = caller; step = taken } ∷ h) self.new)
-            (λ cause. (self.new ≡ self.old) × IsEventFault W.pressure W.normal header.now s items h caller step.now cause) }
+            (λ _. (taken : StepOf) × (step_of step.now ≡ Some taken) × Checks W.Stands W.pressure W.normal header.now
+            s items (record { caller = caller; step = taken } ∷ h) self.new)
+            (λ cause. (self.new ≡ self.old)
+            × IsEventFault W.pressure W.normal header.now s items h caller step.now cause) }
     {
         let narrowed = step.narrow();
         let Some(step) = &narrowed else {

@@ -42,8 +42,8 @@ impl<W: LaneWalk> PhaseCheck<W> {
         walk.due(header, &self.registers, lane, self.lanes.at(slot))
     }
 
-    /// The event that is due of a caller's pass: the step that is due of it with the numbers that stand, or the one that
-    /// ends it. Nothing where the pass doesn't live. No clause speaks of it.
+    /// The event that is due of a caller's pass: the step that is due of it with the numbers that stand, or the one
+    /// that ends it. Nothing where the pass doesn't live. No clause speaks of it.
     pub fn due_of(&self, header: &Header, caller: u64) -> DueEvent
         requires header { IsHeader header.now }
         requires check { MayCheck W.Stands W.pressure W.normal header.now self.now }

@@ -46,7 +46,8 @@ pub trait LaneWalk: Copy {
         requires acts { (items : List Item) × FitsSomewhere header.now items × (acts.now ≡ acts_of lane items) }
         requires stands { (base : State) × (p : ℕ) × (h : History)
             × IsAloneIn header.now base lane p (record { caller = p; step = step.now } ∷ h)
-            × ShowsPages (facts_of header.now base) h registers.now × Stands header.now base lane p acts.now h self.old }
+            × ShowsPages (facts_of header.now base) h registers.now
+            × Stands header.now base lane p acts.now h self.old }
         ensures goes { (base : State) (p : ℕ) (h : History) →
             IsAloneIn header.now base lane p (record { caller = p; step = step.now } ∷ h) →
             ShowsPages (facts_of header.now base) h registers.now →
@@ -67,7 +68,8 @@ pub trait LaneWalk: Copy {
         requires header { IsHeader header.now }
         requires acts { (items : List Item) × FitsSomewhere header.now items × (acts.now ≡ acts_of lane items) }
         requires stands { (base : State) × (p : ℕ) × (h : History) × IsAloneIn header.now base lane p h
-            × ShowsPages (facts_of header.now base) h registers.now × Stands header.now base lane p acts.now h self.now }
+            × ShowsPages (facts_of header.now base) h registers.now
+            × Stands header.now base lane p acts.now h self.now }
         ensures { (base : State) (p : ℕ) (h : History) → IsAloneIn header.now base lane p h →
             ShowsPages (facts_of header.now base) h registers.now →
             Stands header.now base lane p acts.now h self.now →
@@ -84,7 +86,8 @@ pub trait LaneWalk: Copy {
         requires header { IsHeader header.now }
         requires acts { (items : List Item) × FitsSomewhere header.now items × (acts.now ≡ acts_of lane items) }
         requires stands { (base : State) × (p : ℕ) × (h : History) × IsAloneIn header.now base lane p h
-            × ShowsPages (facts_of header.now base) h registers.now × Stands header.now base lane p acts.now h self.now }
+            × ShowsPages (facts_of header.now base) h registers.now
+            × Stands header.now base lane p acts.now h self.now }
         ensures { (base : State) (p : ℕ) (h : History) → IsAloneIn header.now base lane p h →
             ShowsPages (facts_of header.now base) h registers.now →
             Stands header.now base lane p acts.now h self.now →

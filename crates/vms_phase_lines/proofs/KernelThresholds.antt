@@ -5,7 +5,7 @@ use Rattle.std.specs.Prelude.{min}
 use Rattle.std.proofs.lemmas.Bool.Decides.{nat_tests}
 use Rattle.std.proofs.Math.Nat.{mul-le-mul_right}
 use Rattle.vms_base.specs.Numbers.{highest_bit}
-use Rattle.vms_walks.specs.Rules.{ByFormula}
+use Rattle.vms_walks.specs.Rules.{IsExactly}
 use Rattle.vms_world.specs.Common.{GivesThresholds, bits_of, most_threshold, normal_threshold_of}
 
 -- a number above 0 has a bit
@@ -31,7 +31,7 @@ threshold-least b c some =
 min-within : (a : ℕ) → 1 ≤ a → (1 ≤ min most_threshold a) × (min most_threshold a ≤ most_threshold)
 min-within a some = (grind arith, grind arith)
 
-pub normal-gives : GivesThresholds (ByFormula normal_threshold_of)
+pub normal-gives : GivesThresholds (IsExactly normal_threshold_of)
 normal-gives size online t valid least most answered =
     let within = min-within (2 * bits_of online * (1 + bits_of (size.managed / 2 ^ 15)))
     (threshold-least (bits_of online) (bits_of (size.managed / 2 ^ 15)) (bits-least 63 online least)) in

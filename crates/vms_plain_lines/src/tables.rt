@@ -80,8 +80,8 @@ impl PlainTables {
         }
     }
 
-    /// Makes the call of a line of this lane on the page counters, and returns its answer. A call that sets no threshold
-    /// leaves the peaks. A burial makes calls on the other tables too, so the line goes on by `bury` alone.
+    /// Makes the call of a line of this lane on the page counters, and returns its answer. A call that sets no
+    /// threshold leaves the peaks. A burial makes calls on the other tables too, so the line goes on by `bury` alone.
     pub fn call_pages<N: Rule, P: Rule>(
         &mut self,
         rules: &Rules<N, P>,

@@ -4,7 +4,7 @@ use Rattle.vms_core.specs.Pages.{History, state_after}
 use Rattle.vms_core.specs.Steps.{role}
 use Rattle.vms_text.specs.declared.acts.Boundary.{Boundary as BoundaryOf}
 use Rattle.vms_phase_lines.specs.Common.{IsPhaseInOrder, lane_makes}
-use Rattle.vms_walks.specs.Rules.{ByFormula}
+use Rattle.vms_walks.specs.Rules.{IsExactly}
 use Rattle.vms_world.specs.Common.{Between, HasLanes, Header, Item, MakesLines, MayCross, Phase, Segment, State}
 use Rattle.vms_world.specs.Common.{ZoneSize, facts_of, lanes_of, normal_threshold_of, pressure_threshold_of, settled}
 use Rattle.vms_written.specs.Common.{CrossesPages, IsWrittenPhase, LeadsThrough}
@@ -12,10 +12,10 @@ use Rattle.vms_written.proofs.WrittenLanes.{IsWrittenPhase-of_lanes}
 use Rattle.vms_recorded.specs.Histories.{LeadsInOrder, history_lines, phase_lines}
 
 abbrev by_pressure : ZoneSize → ℕ → ℕ → Type 0
-by_pressure = ByFormula pressure_threshold_of
+by_pressure = IsExactly pressure_threshold_of
 
 abbrev by_normal : ZoneSize → ℕ → ℕ → Type 0
-by_normal = ByFormula normal_threshold_of
+by_normal = IsExactly normal_threshold_of
 
 pub history_lines-more : (hs : List History) (h : History)
     → history_lines (hs ++ h ∷ []) ≡ history_lines hs ++ phase_lines h

@@ -2,7 +2,7 @@
 use Rattle.std.specs.Prelude.{◌≡◌, ℕ, List, [], ◌∷◌, ◌++◌}
 use Rattle.vms_core.specs.Pages.{History, state_after}
 use Rattle.vms_phase_lines.specs.Common.{IsPhaseInOrder, event_lines}
-use Rattle.vms_walks.specs.Rules.{ByFormula}
+use Rattle.vms_walks.specs.Rules.{IsExactly}
 use Rattle.vms_world.specs.Common.{AreAnswers, Between, Header, MayCross, Phase, Segment, Start, State, bare_pages}
 use Rattle.vms_world.specs.Common.{facts_of, normal_threshold_of, refreshed, settled}
 use Rattle.vms_written.specs.Common.{CrossesPages}
@@ -25,13 +25,13 @@ LeadsInOrder header [] [] s last = s ≡ last
 LeadsInOrder header (Phase items ∷ segments) (h ∷ hs) s last = IsPhaseInOrder header s items h
     × LeadsInOrder header segments hs (settled (state_after (facts_of header s) h)) last
 LeadsInOrder header (Between number b ∷ segments) hs s last = (next : State) × MayCross header.layout s b
-    × CrossesPages header (ByFormula normal_threshold_of) b s next × LeadsInOrder header segments hs next last
+    × CrossesPages header (IsExactly normal_threshold_of) b s next × LeadsInOrder header segments hs next last
 LeadsInOrder header _ _ s last = ⊥
 
 -- these lists are the recorded history of these segments, from the page counters that a run begins with
 pub record IsRecordedHistory (header : Header) (segments : List Segment) (hs : List History) : Type 0 where
   pub zones : List ℕ
-  pub answers : AreAnswers header (ByFormula normal_threshold_of) header.layout.cpus zones
+  pub answers : AreAnswers header (IsExactly normal_threshold_of) header.layout.cpus zones
   pub last : State
   pub leads : LeadsInOrder header segments hs (refreshed header zones (bare_pages header)) last
 
@@ -39,6 +39,6 @@ pub record IsRecordedHistory (header : Header) (segments : List Segment) (hs : L
 pub record HasRecorded (header : Header) (segments : List Segment) (hs : List History) (start : Start) (s : State)
     : Type 0 where
   pub zones : List ℕ
-  pub answers : AreAnswers header (ByFormula normal_threshold_of) header.layout.cpus zones
+  pub answers : AreAnswers header (IsExactly normal_threshold_of) header.layout.cpus zones
   pub leads : LeadsInOrder header segments hs (refreshed header zones (bare_pages header)) s
   pub begun : IsPageStart header start s

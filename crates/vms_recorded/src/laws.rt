@@ -3,7 +3,7 @@ ghost use Rattle.vms_core.specs.Pages.{History, state_after};
 ghost use Rattle.vms_text.specs.declared.acts.Boundary.{Boundary as BoundaryOf};
 ghost use Rattle.vms_text.specs.declared.acts.Line.TheVariants.{Boundary};
 ghost use Rattle.vms_phase_lines.specs.Common.{IsPhaseInOrder};
-ghost use Rattle.vms_walks.specs.Rules.{ByFormula};
+ghost use Rattle.vms_walks.specs.Rules.{IsExactly};
 ghost use Rattle.vms_world.specs.Common.{AreAnswers, Between, Fits, Header, IsHeader, IsLineOf, Item, Phase, Segment};
 ghost use Rattle.vms_world.specs.Common.{Start, State, allowed_from, bare_pages, facts_of, first_start, line_of};
 ghost use Rattle.vms_world.specs.Common.{normal_threshold_of, pressure_threshold_of, refreshed, settled, start_at_end};
@@ -20,7 +20,7 @@ use vms_written_states::written_phases_keep_starts;
 /// segments so far. The lines of a phase more stand after the others.
 pub fn recorded_histories_go_on()
     ensures first { (header : Header) (zones : List ℕ) → IsHeader header →
-        AreAnswers header (ByFormula normal_threshold_of) header.layout.cpus zones →
+        AreAnswers header (IsExactly normal_threshold_of) header.layout.cpus zones →
         HasRecorded header [] [] first_start (refreshed header zones (bare_pages header)) }
     ensures phase { (header : Header) (segments : List Segment) (hs : List History) (start : Start) (s : State)
         (items : List Item) (h : History) → HasRecorded header segments hs start s → Fits header start items →
@@ -29,7 +29,7 @@ pub fn recorded_histories_go_on()
     ensures boundary { (header : Header) (segments : List Segment) (hs : List History) (start : Start)
         (s next : State) (number : ℕ) (b : BoundaryOf) → HasRecorded header segments hs start s →
         IsLineOf header (Boundary b) → allowed_from header start (Boundary b) ≡ Ok (Boundary b) →
-        CrossesPages header (ByFormula normal_threshold_of) b s next →
+        CrossesPages header (IsExactly normal_threshold_of) b s next →
         HasRecorded header (segments ++ Between number b ∷ []) hs (start_past (Boundary b) start) next }
     ensures recorded { (header : Header) (segments : List Segment) (hs : List History) (start : Start) (s : State) →
         HasRecorded header segments hs start s → IsRecordedHistory header segments hs }
@@ -43,8 +43,8 @@ pub fn recorded_histories_go_on()
 /// A recorded history is a written history of its segments, by the kernel's rules of thresholds.
 pub fn recorded_histories_are_written()
     ensures { (header : Header) (segments : List Segment) (hs : List History) →
-        IsRecordedHistory header segments hs → IsWrittenHistory header (ByFormula pressure_threshold_of)
-        (ByFormula normal_threshold_of) segments hs }
+        IsRecordedHistory header segments hs → IsWrittenHistory header (IsExactly pressure_threshold_of)
+        (IsExactly normal_threshold_of) segments hs }
 {
     file_order_makes_lines::<PageLines<ExactRules>>();
 }

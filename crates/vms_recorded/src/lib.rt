@@ -1,5 +1,5 @@
-//! The written history of a text in the order of its lines: which page events it has, and how it goes on from segment to
-//! segment.
+//! The written history of a text in the order of its lines: which page events it has, and how it goes on from segment
+//! to segment.
 #![tactic(auto)]
 
 mod laws;

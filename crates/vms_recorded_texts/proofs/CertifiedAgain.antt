@@ -12,7 +12,7 @@ use Rattle.vms_header.specs.Common.{IsWritable, header_words, read_header, spell
 use Rattle.vms_header.proofs.Common.{HeadersReadBack-holds, header_words-few, lines_of-sentences}
 use Rattle.vms_line.specs.Laws.{LinesHaveOneSpelling}
 use Rattle.vms_command.specs.Common.{nothing_above}
-use Rattle.vms_walks.specs.Rules.{ByFormula}
+use Rattle.vms_walks.specs.Rules.{IsExactly}
 use Rattle.vms_written.specs.Common.{IsWrittenHistory}
 use Rattle.vms_written_lines.specs.Spelling.{history_line}
 use Rattle.vms_history_checks.specs.Accepts.{events_in}
@@ -102,14 +102,14 @@ module _ (one_spelling : LinesHaveOneSpelling) (header : Header) (writable : IsW
   }
 
   pub certified-again : (n : ℕ) → IsRecordedHistory header (contents_of header n body).segments hs
-      → IsWrittenHistory header (ByFormula pressure_threshold_of) (ByFormula normal_threshold_of)
+      → IsWrittenHistory header (IsExactly pressure_threshold_of) (IsExactly normal_threshold_of)
       (contents_of header n body).segments hs → AreShort hs
       → IsCertified kernel_rules (lines_of (text_with header body hs)) (length hs) (events_in hs) 0
   certified-again n recorded written short =
       let first = suc (length (header_words header)) in
       let again = segments_of (numbered_lines header [] first trace) in
       let same = segments-again one_spelling header writable.is_header [] n first body in
-      let is = IsWrittenHistory-same header (ByFormula pressure_threshold_of) (ByFormula normal_threshold_of)
+      let is = IsWrittenHistory-same header (IsExactly pressure_threshold_of) (IsExactly normal_threshold_of)
       (contents_of header n body).segments again hs same written in
       record {
         header = header;
@@ -121,8 +121,8 @@ module _ (one_spelling : LinesHaveOneSpelling) (header : Header) (writable : IsW
           reverse hs,
           histories-read header hs (leads-legal header (contents_of header n body).segments hs _ recorded.last
               recorded.leads) short,
-          subst (λ (lists : List History). IsWrittenHistory header (ByFormula pressure_threshold_of)
-              (ByFormula normal_threshold_of) again lists) (sym (reverse-reverse hs)) is,
+          subst (λ (lists : List History). IsWrittenHistory header (IsExactly pressure_threshold_of)
+              (IsExactly normal_threshold_of) again lists) (sym (reverse-reverse hs)) is,
           sym (length-reverse hs),
           sym (events_in-reverse hs),
         );

@@ -7,10 +7,11 @@ use Rattle.vms_world.specs.Common.{Header, ZoneSize, IsValidSize, normal_thresho
 abbrev pub ByFormula : (ZoneSize → ℕ → ℕ) → ZoneSize → ℕ → ℕ → Type 0
 ByFormula formula size online t = IsValidSize size → 1 ≤ online → online ≤ 128 → t ≡ formula size online
 
--- `calculate_normal_threshold` and `calculate_pressure_threshold` of mm/vmstat.c
+-- `calculate_normal_threshold` of mm/vmstat.c
 abbrev pub normal_rule : ZoneSize → ℕ → ℕ → Type 0
 normal_rule = ByFormula normal_threshold_of
 
+-- `calculate_pressure_threshold` of mm/vmstat.c
 abbrev pub pressure_rule : ZoneSize → ℕ → ℕ → Type 0
 pressure_rule = ByFormula pressure_threshold_of
 

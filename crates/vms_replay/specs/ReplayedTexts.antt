@@ -61,7 +61,7 @@ pub record PhasesLeadThrough (Makes : Header → World → List Item → TableHi
       (first_world header) last way)
   pub plain : AddUpOn header segments (histories_in made) (first_world header) last way []
 
--- the same of the first of these segments
+-- these phases are those on a way through the first of these segments
 pub record PhasesLeadThroughFront (Makes : Header → World → List Item → TableHistories → Type 0) (header : Header)
     (segments : List Segment) (made : List PastPhase) : Type 0 where
   pub front : List Segment
@@ -78,10 +78,11 @@ PhasesLeadFrom Lead (Err fault) lines made = made ≡ []
 PhasesLeadFrom Lead (Ok (header, count)) lines made =
     Lead header (contents_of header (suc count) (drop count lines)).segments made
 
--- these are all phases of a text, or its first ones
+-- these are all phases of a text
 abbrev pub AreAllOf : (Header → World → List Item → TableHistories → Type 0) → List (List ℕ) → List PastPhase → Type 0
 AreAllOf Makes lines made = PhasesLeadFrom (PhasesLeadThrough Makes) (read_header lines) lines made
 
+-- these are the first phases of a text
 abbrev pub AreFirstOf : (Header → World → List Item → TableHistories → Type 0) → List (List ℕ) → List PastPhase → Type 0
 AreFirstOf Makes lines made = PhasesLeadFrom (PhasesLeadThroughFront Makes) (read_header lines) lines made
 

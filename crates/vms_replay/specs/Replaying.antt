@@ -25,6 +25,7 @@ pub record Kept : Type 0 where
   pub made : List PastPhase
   pub items : List Item
 
+-- kept before the first line of the body
 abbrev pub first_kept : Header → Kept
 first_kept header = record {
   world = first_world header;
@@ -70,6 +71,7 @@ answer_text header n (next ∷ rest) =
 abbrev pub asking_text : Header → ℕ → Text PastPhase
 asking_text header n = Asks (λ made. answer_text header n (answers_in header made))
 
+-- the text of line n, which has this act
 abbrev pub act_text : Header → ℕ → Act → Text PastPhase
 act_text header n act = if is_asking act then asking_text header n else Plain []
 
@@ -89,6 +91,7 @@ boundary_report header n (Report kind) made w =
     line_prefix n ++ spelled_line header (Boundary (Report kind)) ++ report_after header kind made w
 boundary_report header n _ made w = []
 
+-- the text of boundary line n, which tells of what stands after the phase that ends there
 abbrev pub boundary_text : Header → ℕ → BoundaryOf → Kept → Text PastPhase
 boundary_text header n b kept = text_after (has_some kept.items)
     (λ given. boundary_report header n b (with_given given kept.made) (world_after header kept.world given))
@@ -112,6 +115,7 @@ kept_with_line header n above (Boundary b) given kept = record {
   items = [];
 }
 
+-- kept after line n, by what was judged of it
 abbrev pub next_kept : Header → ℕ → LinesAbove → Result Line LineCause → Option PastPhase → Kept → Kept
 next_kept header n above (Ok line) given kept = kept_with_line header n above line given kept
 next_kept header n above (Err cause) given kept = kept

@@ -97,18 +97,20 @@ Says behavior shows TooLong taken written reading =
 Says behavior shows NotCertified taken written reading =
     Halts behavior NotCertified taken written reading ⊎ Ends behavior shows NotCertified taken written reading.at_end
 
--- which calls failed: where the status says so one read, which was the last, and else none
+-- which reads failed: where the status says so one, which was the last call of the source, and else none
 abbrev pub FaultsOfSource : {S : Type 0} → (S → Option (List ℕ)) → (S → ℕ) → (S → ℕ) → Status → S → S → Type 0
 FaultsOfSource left faults calls ReadFault before now = LastFails left faults calls before now
 FaultsOfSource left faults calls _ before now = faults now ≡ faults before
 
--- and one write, which was the last, and else none
+-- which writes failed: where the status says so one, which was the last call of the sink, and else none
 abbrev pub FaultsOfSink : {K : Type 0} → (K → Option (List ℕ)) → (K → ℕ) → (K → ℕ) → Status → K → K → Type 0
 FaultsOfSink held faults calls WriteFault before now = LastFails held faults calls before now
 FaultsOfSink held faults calls _ before now = faults now ≡ faults before
 
 -- a command took bytes from its source and wrote bytes to its sink, and its status says what they are and which calls
--- failed. A source tells what is left and a sink what was written, and each how many calls of it failed and were made
+-- failed. A source tells what is left and a sink what was written, and each how many calls of it failed and were made.
+-- Of a source or a sink that tells no bytes nothing is said but the calls, and what is said of a device at a call holds
+-- of the real one since a command is generic in both
 pub record TakesAndWrites {S K : Type 0} (left : S → Option (List ℕ)) (read_faults read_calls : S → ℕ)
     (held : K → Option (List ℕ)) (write_faults write_calls : K → ℕ) (src src' : S) (out out' : K) (status : Status)
     (says : Status → List ℕ → List ℕ → Reading → Type 0) : Type 0 where

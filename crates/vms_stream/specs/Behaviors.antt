@@ -51,8 +51,8 @@ abbrev pub halted : {S : Type 0} → Behavior S → S → List (List ℕ) → Op
 halted behavior s [] = None
 halted behavior s (line ∷ lines) = first_halt (behavior.halts s line) (halted behavior (behavior.next s line) lines)
 
--- what is printed from a line on: nothing after one that stops the command, and that one prints where it is refused or at
--- fault
+-- what is printed from a line on: nothing after one that stops the command, and that one prints where it is refused or
+-- at fault
 abbrev pub printed_from : Option Status → List ℕ → List ℕ → List ℕ
 printed_from None line later = line ++ later
 printed_from (Some Header) line later = line

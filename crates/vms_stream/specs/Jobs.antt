@@ -38,6 +38,7 @@ abbrev pub shown_with : {S O : Type 0} → (S → Option O → Type 0) → S →
 shown_with shows s (Gives given left) = shows s given
 shown_with shows s Lacks = ⊥
 
+-- what is shown at the end of a way
 abbrev pub shown_on : {S O : Type 0} → PhasedBehavior S O → (S → Option O → Type 0) → Way S O → Type 0
 shown_on phased shows (On s left) = shown_with shows s (supply (phased.ends_last s) left)
 shown_on phased shows Short = ⊥

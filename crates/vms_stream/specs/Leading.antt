@@ -25,17 +25,19 @@ OutcomesLeadThrough phased asked s outcomes (line ∷ lines) =
     (λ given left. none_after (phased.halts s line given) left
     (OutcomesLeadThrough phased asked (phased.next s line given) left lines))
 
--- the outcomes are those of the first phases that end at these lines, as many as there are outcomes
+-- no outcome is left
 abbrev pub AllUsed : {S O : Type 0} → S → List O → Type 0
 AllUsed s left = left ≡ []
 
+-- these are the outcomes of the first phases that end at these lines
 abbrev pub OutcomesLead : {S O : Type 0} → PhasedBehavior S O → S → List O → List (List ℕ) → Type 0
 OutcomesLead phased = OutcomesLeadThrough phased AllUsed
 
--- the same where these lines are all of an input, at whose end a phase may end too
+-- no outcome is left at the end of an input, where a phase may end too
 abbrev pub UsedAtEnd : {S O : Type 0} → PhasedBehavior S O → S → List O → Type 0
 UsedAtEnd phased s outcomes =
     leads_on (phased.ends_last s) outcomes (phased.AllowsLast s) (λ given left. left ≡ [])
 
+-- these are the outcomes of the first phases of an input of these lines
 abbrev pub OutcomesLeadToEnd : {S O : Type 0} → PhasedBehavior S O → S → List O → List (List ℕ) → Type 0
 OutcomesLeadToEnd phased = OutcomesLeadThrough phased (UsedAtEnd phased)

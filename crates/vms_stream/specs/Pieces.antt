@@ -6,12 +6,13 @@ use Rattle.std.specs.List.{slice_split}
 abbrev pub newline_parts : List ℕ → List (List ℕ)
 newline_parts text = slice_split (λ byte. byte == 10) text
 
--- the parts but for the last, and the last
+-- all parts but for the last
 abbrev pub front_of : List (List ℕ) → List (List ℕ)
 front_of [] = []
 front_of (part ∷ []) = []
 front_of (part ∷ (next ∷ parts)) = part ∷ front_of (next ∷ parts)
 
+-- the last of some parts
 abbrev pub last_of : List (List ℕ) → List ℕ
 last_of [] = []
 last_of (part ∷ []) = part

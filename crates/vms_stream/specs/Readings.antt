@@ -2,8 +2,9 @@
 use Rattle.std.specs.Prelude.{ℕ, ◌+◌, ◌≤◌, List, Option}
 use Rattle.std.specs.Io.KnownBytes.{Consumes, IsAtEnd}
 
--- what the calls of a source before the last one brought, and the piece that the last one brought. `found` is the
--- source as that call found it, and no call came after it. Where no call was made, the piece is empty
+-- what the calls of a source before the last one brought, and the piece that the last one brought: at most one call
+-- came after `found`. That this is the source as the last call found it rests on the caller, which is generic in it.
+-- Where no call was made, the piece is empty
 pub record LastCall {S : Type 0} (left : S → Option (List ℕ)) (calls : S → ℕ) (src src' : S) (before piece : List ℕ)
     : Type 0 where
   pub found : S

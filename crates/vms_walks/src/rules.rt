@@ -2,7 +2,7 @@ ghost use Rattle.std.specs.Prelude.{◌≡◌, ℕ, ◌≤◌};
 ghost use Rattle.vms_world.specs.Common.{IsValidSize, normal_threshold_of, pressure_threshold_of};
 ghost use Rattle.vms_cursors.specs.RatingCalls.{choice_in};
 ghost use Rattle.vms_own_acts.specs.Common.{IsFunction};
-ghost use Rattle.vms_walks.specs.Rules.{ByFormula, formula-is_function};
+ghost use Rattle.vms_walks.specs.Rules.{IsExactly, formula-is_function};
 
 use vms_base::ZoneSize;
 use vms_calc::{normal_threshold, pressure_threshold};
@@ -35,9 +35,9 @@ pub trait RuleFunctions: ThresholdRules {
 pub struct ExactRules;
 
 impl ThresholdRules for ExactRules {
-    ghost pressure = { ByFormula pressure_threshold_of };
+    ghost pressure = { IsExactly pressure_threshold_of };
 
-    ghost normal = { ByFormula normal_threshold_of };
+    ghost normal = { IsExactly normal_threshold_of };
 }
 
 impl RuleFunctions for ExactRules {

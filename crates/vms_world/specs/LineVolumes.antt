@@ -10,18 +10,20 @@ use Rattle.vms_world.specs.declared.worlds.World.{World}
 use Rattle.vms_world.specs.Listed.{listed_by_cpu}
 use Rattle.vms_world.specs.Worlds.{event_volume, page_volume, pcpu_facts, pcpu_volume}
 
--- the volume of CPU c on a page counter, an event and a percpu counter after these lines: each line spends the absolute
--- size of what it asks for, a limited addition also where it adds nothing
+-- the volume of CPU c on page counter k after these lines: each line spends the absolute size of what it asks for. A
+-- limited addition to a percpu counter does so also where it adds nothing
 abbrev pub page_volume_after : Header → World → List Item → ℕ → ℕ → ℕ
 page_volume_after header w items c k = page_volume header w c k + volume (spent_on_counter k) c (map line_of items)
 
+-- the volume of CPU c on event k after these lines
 abbrev pub event_volume_after : World → List Item → ℕ → ℕ → ℕ
 event_volume_after w items c k = event_volume w c k + volume (spent_on_event k) c (map line_of items)
 
+-- the volume of CPU c on percpu counter j after these lines
 abbrev pub pcpu_volume_after : Header → World → List Item → ℕ → ℕ → ℕ
 pcpu_volume_after header w items c j = pcpu_volume header w c j + volume (spent_on_pcpu j) c (map line_of items)
 
--- all of them
+-- the volumes of all CPUs on all counters and events after these lines
 abbrev pub volumes_after : Header → World → List Item → Volumes
 volumes_after header w items = record {
   pages = listed_by_cpu (page_volume_after header w items) header.layout.cpus (counter_count header.layout);

@@ -11,13 +11,15 @@ use Rattle.vms_pcpu_core.specs.Bases as percpu
 use Rattle.vms_pcpu_core.specs.Common.{count_at, locals}
 use Rattle.vms_world.specs.declared.worlds.World.{World}
 
--- what the three tables are told of a phase from this world: the same CPUs are online, dead and absent in all
+-- what the page counters are told of a phase from this world. The same CPUs are online, dead and absent in all tables
 abbrev pub page_facts : Header → World → Facts
 page_facts header w = facts_of header w.pages
 
+-- what the event counters are told of a phase from this world
 abbrev pub event_facts : Header → World → EventFacts
 event_facts header w = record { layout = header.layout; cpus = w.pages.cpu; base = w.events }
 
+-- what the percpu counters are told of a phase from this world
 abbrev pub pcpu_facts : Header → World → PcpuFacts
 pcpu_facts header w = record { layout = header.layout; cpus = w.pages.cpu; base = w.counters }
 
@@ -25,13 +27,15 @@ pcpu_facts header w = record { layout = header.layout; cpus = w.pages.cpu; base 
 abbrev pub volume_in : List ℕ → ℕ → ℕ → ℕ → ℕ
 volume_in volumes width c k = slice_index_or volumes (cell width c k) 0
 
--- the volume of CPU c on a page counter, an event and a percpu counter
+-- the volume of CPU c on page counter k
 abbrev pub page_volume : Header → World → ℕ → ℕ → ℕ
 page_volume header w c k = volume_in w.volumes.pages (counter_count header.layout) c k
 
+-- the volume of CPU c on event k
 abbrev pub event_volume : World → ℕ → ℕ → ℕ
 event_volume w c k = volume_in w.volumes.events event_count c k
 
+-- the volume of CPU c on percpu counter j
 abbrev pub pcpu_volume : Header → World → ℕ → ℕ → ℕ
 pcpu_volume header w c j = volume_in w.volumes.counters (length header.counters) c j
 

@@ -10,8 +10,8 @@ use vms_calls::ThresholdRules;
 use vms_file_order::file_order_makes_phases;
 use vms_written::runs_are_written;
 
-/// What a written phase or history asks the rules of thresholds for is a valid size and 1 to 128 online CPUs. So what is
-/// one by some rules is one by others that allow their answers there.
+/// What a written phase or history asks the rules of thresholds for is a valid size and 1 to 128 online CPUs. So what
+/// is one by some rules is one by others that allow their answers there.
 pub fn asked_answers_decide<R: ThresholdRules, S: ThresholdRules>()
     ensures phases { (header : Header) (s : State) (items : List Item) (h : History) →
         Allows S.pressure R.pressure → Allows S.normal R.normal →

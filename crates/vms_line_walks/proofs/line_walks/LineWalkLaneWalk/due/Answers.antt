@@ -3,7 +3,7 @@ use Rattle.std.proofs.Common.{◌∷◌, refl}
 use Rattle.std.specs.Prelude.{◌↔◌, IfSome, IsNone, MatchOption, None, Option, Some}
 use Rattle.vms_plans.specs.declared.due_steps.DueStep.{DueStep}
 use Rattle.vms_phase_checks.specs.Common.{IsDueIn}
-use Rattle.vms_walks.specs.Rules.{ByFormula}
+use Rattle.vms_walks.specs.Rules.{IsExactly}
 use Rattle.vms_world.specs.Common.{MakesActs, PageSteps, normal_threshold_of, pressure_threshold_of}
 use Rattle.vms_line_walks.specs.ExactRules.{for-alone}
 use Rattle.vms_line_walks.proofs.line_walks.LineWalkLaneWalk.due.Goals as goal
@@ -21,9 +21,9 @@ returns c base p h alone shows stands =
     let header = c.args.header.now in
     let lane = c.args.lane in
     let is = for-alone header base lane p h alone in
-    told (MakesActs (PageSteps header base (ByFormula pressure_threshold_of) (ByFormula normal_threshold_of) lane p) p
+    told (MakesActs (PageSteps header base (IsExactly pressure_threshold_of) (IsExactly normal_threshold_of) lane p) p
     c.args.acts.now h) _
-    (IsDueIn (ByFormula pressure_threshold_of) (ByFormula normal_threshold_of) header base lane p c.args.acts.now h)
+    (IsDueIn (IsExactly pressure_threshold_of) (IsExactly normal_threshold_of) header base lane p c.args.acts.now h)
     c.due.result
     (λ due fits step later along. fits step (for-alone header base lane p (record { caller = p; step = step } ∷ h) later)
     along)
