@@ -1,6 +1,7 @@
 //! The burial of a dead CPU.
 
-ghost use Rattle.std.specs.Prelude.{◌≡◌, ◌-◌, ◌^◌, false, OnOk};
+ghost use Rattle.std.specs.Prelude.{◌≡◌, ◌-◌, ◌^◌, false, OnErr, OnOk};
+ghost use Rattle.vms_text.specs.Common.{Begins};
 ghost use Rattle.vms_calls.specs.Common.{Absent, Buries, Dead, HasOnline, IsCpu, IsHeader, State, cpu_at, facts_of};
 ghost use Rattle.vms_calls.specs.Common.{most_sets, with_cpu};
 ghost use Rattle.vms_plain_pages.specs.Common.{FoldsCpu, IsSmallState};
@@ -41,6 +42,7 @@ pub(crate) fn write_burial<N: Rule, P: Rule>(
         × SetsOnly (with_cpu folded cpu.number Absent) pages.new) }
     ensures sets { OnOk result (SetsEachAtMost header.now.layout 1 pages.old pages.new) }
     ensures full { OnOk result (HasAllPeaks header.now.layout peaks.new) }
+    ensures err { OnErr result (Begins out.old.items out.new.items) }
 {
     folds_may_be_made();
     write_removal(out, caller, pages, &header.layout, cpu)?;
@@ -58,7 +60,8 @@ fn write_removal(
     requires numbers { IsSmallState layout.now (2 ^ 61) pages.old }
     requires cpu { IsCpu layout.now cpu.number }
     requires dead { cpu_at pages.old cpu.number ≡ Dead }
-    ensures { OnOk result (WritesRemoval layout.now cpu caller pages.old pages.new out.old.items out.new.items) }
+    ensures ok { OnOk result (WritesRemoval layout.now cpu caller pages.old pages.new out.old.items out.new.items) }
+    ensures err { OnErr result (Begins out.old.items out.new.items) }
 {
     write_fold(out, caller, pages, layout, cpu, false)?;
     push_event_line(out, caller, &Step::SetO(cpu))?;

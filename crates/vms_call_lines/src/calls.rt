@@ -1,6 +1,7 @@
 //! A call on plain page counters with its lines.
 
-ghost use Rattle.std.specs.Prelude.{◌≡◌, ◌^◌, OnOk, Some};
+ghost use Rattle.std.specs.Prelude.{◌≡◌, ◌^◌, OnErr, OnOk, Some};
+ghost use Rattle.vms_text.specs.Common.{Begins};
 ghost use Rattle.vms_calls.specs.Common.{CpuId, IsHeader, State};
 ghost use Rattle.vms_calls.specs.PageCalls.{owns_cpu};
 ghost use Rattle.vms_calls.specs.declared.page_calls.PageCall.TheVariants.{Change};
@@ -43,6 +44,7 @@ pub fn write_call<N: Rule, P: Rule>(
     ensures writes { OnOk result (WritesCall header.now (P.answers rules.now.pressure) (N.answers rules.now.normal) call
         owner caller pages.old peaks.old pages.new peaks.new out.old.items out.new.items) }
     ensures full { OnOk result (HasAllPeaks header.now.layout peaks.old → HasAllPeaks header.now.layout peaks.new) }
+    ensures err { OnErr result (Begins out.old.items out.new.items) }
 {
     rules.tells();
     match call {
@@ -103,10 +105,11 @@ fn write_own_change(
     requires header { IsHeader header.now }
     requires numbers { IsSmallState header.now.layout (2 ^ 61) pages.old }
     requires fits { FitsPageCall header.now (Change counter delta mode) owner pages.old }
-    ensures { OnOk result ((own : CpuId) × (last : State) × (owner ≡ Some own)
+    ensures ok { OnOk result ((own : CpuId) × (last : State) × (owner ≡ Some own)
         × (pages.new ≡ with_change header.now.layout own.number counter.number delta mode pages.old)
         × WritesWay owner (change_plan header.now.layout own counter delta mode) pages.old caller
         out.old.items out.new.items (tt {0}) last) }
+    ensures err { OnErr result (Begins out.old.items out.new.items) }
 {
     match owner {
         Some(cpu) => {

@@ -1,8 +1,9 @@
 //! A change of a counter.
 
-ghost use Rattle.std.specs.Prelude.{◌≡◌, ◌≤◌, ◌^◌, ◌++◌, OnOk, Some, unsigned_abs};
+ghost use Rattle.std.specs.Prelude.{◌≡◌, ◌≤◌, ◌^◌, ◌++◌, OnErr, OnOk, Some, unsigned_abs};
 ghost use Rattle.std.specs.Int.{w64};
 ghost use Rattle.std.specs.Int.RustNames.{FitsSigned};
+ghost use Rattle.vms_text.specs.Common.{Begins};
 ghost use Rattle.vms_calls.specs.Common.{HasShape, IsCounter, IsCpu, State, carried_by, entry};
 ghost use Rattle.vms_plans.specs.Common.{carrying, change_plan};
 ghost use Rattle.vms_rating_lines.specs.Lines.{step_lines};
@@ -28,8 +29,9 @@ pub(crate) fn write_change(
     requires cpu { IsCpu layout.now cpu.number }
     requires counter { IsCounter layout.now counter.number }
     requires delta { unsigned_abs delta ≤ 2 ^ 48 }
-    ensures { OnOk result ((next : State) × WritesWay (Some cpu) (change_plan layout.now cpu counter delta mode)
+    ensures ok { OnOk result ((next : State) × WritesWay (Some cpu) (change_plan layout.now cpu counter delta mode)
         pages.now caller out.old.items out.new.items (tt {0}) next) }
+    ensures err { OnErr result (Begins out.old.items out.new.items) }
 {
     let read = load_threshold(out, caller, pages, cpu, layout.place_of(counter))?;
     let list = load_group(out, caller, pages, cpu, layout.group(counter))?;
@@ -61,8 +63,9 @@ fn write_move(
     moved: i64,
 ) -> Result<(), Memory>
     requires { IsCounter layout.now counter.number }
-    ensures { OnOk result (out.new.items
+    ensures ok { OnOk result (out.new.items
         ≡ out.old.items ++ step_lines caller (carrying layout.now counter moved)) }
+    ensures err { OnErr result (Begins out.old.items out.new.items) }
 {
     if moved == 0 {
         return Ok(());

@@ -1,6 +1,8 @@
 //! The fold of a CPU.
 
-ghost use Rattle.std.specs.Prelude.{◌≡◌, ℕ, ◌+◌, ◌/◌, ◌<◌, ◌≤◌, ◌^◌, ◌++◌, ◌+ℤ◌, OnOk, length, slice_set, unsigned_abs};
+ghost use Rattle.std.specs.Prelude.{◌≡◌, ℕ, ◌+◌, ◌/◌, ◌<◌, ◌≤◌, ◌^◌, ◌++◌, ◌+ℤ◌, OnErr, OnOk, length, slice_set};
+ghost use Rattle.std.specs.Prelude.{unsigned_abs};
+ghost use Rattle.vms_text.specs.Common.{Begins};
 ghost use Rattle.vms_calls.specs.Common.{IsCounter, IsCpu, IsGroup, IsItem, IsLayout, IsPlace, counter_at};
 ghost use Rattle.vms_calls.specs.Common.{counter_count, group_of, item_count, item_of, system_at, to_place, value_at};
 ghost use Rattle.vms_calls.specs.Common.{to_system, with_system, with_value};
@@ -27,7 +29,8 @@ pub(crate) fn write_fold(
 ) -> Result<(), Memory>
     requires room { IsSmallState layout.now (2 ^ 61) pages.old }
     requires cpu { IsCpu layout.now cpu.number }
-    ensures { OnOk result (WritesFold layout.now own cpu caller pages.old pages.new out.old.items out.new.items) }
+    ensures ok { OnOk result (WritesFold layout.now own cpu caller pages.old pages.new out.old.items out.new.items) }
+    ensures err { OnErr result (Begins out.old.items out.new.items) }
 {
     let mut sums = [0; MOST_ITEMS];
     for number in 0..layout.places() {
@@ -64,6 +67,7 @@ fn write_place(
     ensures writes { OnOk result (WritesPlace layout.now own cpu place.number caller pages.old pages.new
         sums.old sums.new out.old.items out.new.items) }
     ensures sums { OnOk result ((most : ℕ) → AreSums most sums.old → AreSums (most + 2048) sums.new) }
+    ensures err { OnErr result (Begins out.old.items out.new.items) }
 {
     let zones = layout.zones().len() as u32;
     if own && place.number < zones {
@@ -95,6 +99,7 @@ fn write_groups(
     ensures writes { OnOk result (WritesGroups layout.now cpu (group_of (counter_at layout.now place.number 0))
         (layout.now.positions / 8) caller pages.old pages.new sums.old sums.new out.old.items out.new.items) }
     ensures sums { OnOk result ((most : ℕ) → AreSums most sums.old → AreSums (most + 2048) sums.new) }
+    ensures err { OnErr result (Begins out.old.items out.new.items) }
 {
     let each = layout.positions() / 8;
     let first = each * place.number;
@@ -130,6 +135,7 @@ fn write_group(
     ensures writes { OnOk result (WritesGroups layout.now cpu group.number 1 caller pages.old pages.new
         sums.old sums.new out.old.items out.new.items) }
     ensures sums { OnOk result ((most : ℕ) → AreSums most sums.old → AreSums (most + 1024) sums.new) }
+    ensures err { OnErr result (Begins out.old.items out.new.items) }
 {
     let found = pages.take(cpu, group);
     push_event_line(out, caller, &Step::Take(cpu, group, found))?;
@@ -173,6 +179,7 @@ fn write_entry(
         (sum_at sums.old (item_of layout.now counter.number) +ℤ amount)) }
     ensures lines { OnOk result
         (out.new.items ≡ out.old.items ++ step_lines caller (to_place counter.number amount)) }
+    ensures err { OnErr result (Begins out.old.items out.new.items) }
 {
     if amount == 0 {
         return Ok(());
@@ -194,7 +201,8 @@ fn write_sums(
     requires systems { (i : ℕ) → IsItem layout.now i → unsigned_abs (system_at pages.old i) ≤ 2 ^ 61 }
     requires length { length pages.old.system ≡ item_count layout.now }
     requires sums { AreSums (2 ^ 21) sums.now }
-    ensures { OnOk result (WritesSums layout.now sums.now caller pages.old pages.new out.old.items out.new.items) }
+    ensures ok { OnOk result (WritesSums layout.now sums.now caller pages.old pages.new out.old.items out.new.items) }
+    ensures err { OnErr result (Begins out.old.items out.new.items) }
 {
     for number in 0..layout.items() {
         write_sum(out, caller, pages, ItemId { number }, sums[number as usize])?;
@@ -217,6 +225,7 @@ fn write_sum(
     ensures system { OnOk result
         (pages.new ≡ with_system pages.old item.number (system_at pages.old item.number +ℤ sum)) }
     ensures lines { OnOk result (out.new.items ≡ out.old.items ++ step_lines caller (to_system item.number sum)) }
+    ensures err { OnErr result (Begins out.old.items out.new.items) }
 {
     if sum == 0 {
         return Ok(());

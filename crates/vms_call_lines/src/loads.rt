@@ -1,8 +1,9 @@
 //! Single loads: each appends the line of its event.
 
-ghost use Rattle.std.specs.Prelude.{◌≡◌, ◌<◌, ◌/◌, ◌++◌, IfOk, length};
+ghost use Rattle.std.specs.Prelude.{◌≡◌, ◌<◌, ◌/◌, ◌++◌, IfOk, OnErr, length};
 ghost use Rattle.std.specs.Int.{w64};
 ghost use Rattle.std.specs.Int.RustNames.{FitsSigned};
+ghost use Rattle.vms_text.specs.Common.{Begins};
 ghost use Rattle.vms_calls.specs.Common.{LoadD, LoadG, LoadM, LoadO, LoadS, LoadT, TellsGroup, counters_of, cpu_at};
 ghost use Rattle.vms_calls.specs.Common.{places_of, threshold_at, threshold_sets_at, mark_at, mark_sets_at, system_at};
 ghost use Rattle.vms_calls.specs.Common.{value_at, zones_of};
@@ -24,6 +25,7 @@ pub(crate) fn load_value(
     ensures fits { IfOk result (λ v. FitsSigned w64 v) }
     ensures load { IfOk result (λ v. (v ≡ value_at pages.now counter.number)
         × (out.new.items ≡ out.old.items ++ event_line caller (widened (LoadG counter v)))) }
+    ensures err { OnErr result (Begins out.old.items out.new.items) }
 {
     let value = pages.load_place(counter);
     push_event_line(out, caller, &Step::LoadG(counter, value))?;
@@ -41,6 +43,7 @@ pub(crate) fn load_system(
     ensures fits { IfOk result (λ v. FitsSigned w64 v) }
     ensures load { IfOk result (λ v. (v ≡ system_at pages.now item.number)
         × (out.new.items ≡ out.old.items ++ event_line caller (widened (LoadS item v)))) }
+    ensures err { OnErr result (Begins out.old.items out.new.items) }
 {
     let value = pages.load_system(item);
     push_event_line(out, caller, &Step::LoadS(item, value))?;
@@ -57,8 +60,9 @@ pub(crate) fn load_group(
 ) -> Result<Diffs, Memory>
     requires cpu { cpu.number < length pages.now.cpu }
     requires group { group.number < counters_of pages.now / 8 }
-    ensures { IfOk result (λ list. TellsGroup pages.now cpu.number group.number list.values
+    ensures ok { IfOk result (λ list. TellsGroup pages.now cpu.number group.number list.values
         × (out.new.items ≡ out.old.items ++ event_line caller (widened (LoadD cpu group list)))) }
+    ensures err { OnErr result (Begins out.old.items out.new.items) }
 {
     let list = pages.load_diffs(cpu, group);
     push_event_line(out, caller, &Step::LoadD(cpu, group, list))?;
@@ -73,9 +77,10 @@ pub(crate) fn load_mark(
     zone: PlaceId,
 ) -> Result<MarkRead, Memory>
     requires { zone.number < zones_of pages.now }
-    ensures { IfOk result (λ read. (read.mark ≡ mark_at pages.now zone.number)
+    ensures ok { IfOk result (λ read. (read.mark ≡ mark_at pages.now zone.number)
         × (read.number ≡ mark_sets_at pages.now zone.number)
         × (out.new.items ≡ out.old.items ++ event_line caller (widened (LoadM zone read.mark read.number)))) }
+    ensures err { OnErr result (Begins out.old.items out.new.items) }
 {
     let read = pages.load_mark(zone);
     push_event_line(out, caller, &Step::LoadM(zone, read.mark, read.number))?;
@@ -90,8 +95,9 @@ pub(crate) fn load_state(
     cpu: CpuId,
 ) -> Result<CpuState, Memory>
     requires { cpu.number < length pages.now.cpu }
-    ensures { IfOk result (λ x. (x ≡ cpu_at pages.now cpu.number)
+    ensures ok { IfOk result (λ x. (x ≡ cpu_at pages.now cpu.number)
         × (out.new.items ≡ out.old.items ++ event_line caller (widened (LoadO cpu x)))) }
+    ensures err { OnErr result (Begins out.old.items out.new.items) }
 {
     let state = pages.load_state(cpu);
     push_event_line(out, caller, &Step::LoadO(cpu, state))?;
@@ -108,9 +114,10 @@ pub(crate) fn load_threshold(
 ) -> Result<Threshold, Memory>
     requires cpu { cpu.number < length pages.now.cpu }
     requires place { place.number < places_of pages.now }
-    ensures { IfOk result (λ read. (read.t ≡ threshold_at pages.now cpu.number place.number)
+    ensures ok { IfOk result (λ read. (read.t ≡ threshold_at pages.now cpu.number place.number)
         × (read.number ≡ threshold_sets_at pages.now cpu.number place.number)
         × (out.new.items ≡ out.old.items ++ event_line caller (widened (LoadT place read.t read.number)))) }
+    ensures err { OnErr result (Begins out.old.items out.new.items) }
 {
     let read = pages.load_threshold(cpu, place);
     push_event_line(out, caller, &Step::LoadT(place, read.t, read.number))?;

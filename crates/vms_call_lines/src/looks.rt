@@ -1,7 +1,8 @@
 //! The calls that look at values.
 
-ghost use Rattle.std.specs.Prelude.{◌≡◌, ◌+◌, ◌*◌, ◌<◌, ◌≤◌, ◌^◌, ◌+ℤ◌, ℕ, ℤ, suc, IfOk, OnOk, Option, length};
+ghost use Rattle.std.specs.Prelude.{◌≡◌, ◌+◌, ◌*◌, ◌<◌, ◌≤◌, ◌^◌, ◌+ℤ◌, ℕ, ℤ, suc, IfOk, OnErr, OnOk, Option, length};
 ghost use Rattle.std.specs.Prelude.{unsigned_abs};
+ghost use Rattle.vms_text.specs.Common.{Begins};
 ghost use Rattle.vms_calls.specs.Common.{CpuId, IsCounter, IsCpu, IsLayout, at_least_zero, counters_of};
 ghost use Rattle.vms_calls.specs.Common.{is_online as tells_online};
 ghost use Rattle.vms_plain_pages.specs.Common.{IsSmallState};
@@ -20,8 +21,9 @@ pub(crate) fn write_value(
     counter: CounterId,
 ) -> Result<u64, Memory>
     requires { counter.number < counters_of pages.now }
-    ensures { IfOk result (λ answer. (who : Option CpuId) →
+    ensures ok { IfOk result (λ answer. (who : Option CpuId) →
         WritesWay who (value_plan counter) pages.now caller out.old.items out.new.items answer pages.now) }
+    ensures err { OnErr result (Begins out.old.items out.new.items) }
 {
     let value = load_value(out, caller, pages, counter)?;
     Ok(clamped(value))
@@ -35,8 +37,9 @@ pub(crate) fn write_system(
     item: ItemId,
 ) -> Result<u64, Memory>
     requires { item.number < length pages.now.system }
-    ensures { IfOk result (λ answer. (who : Option CpuId) →
+    ensures ok { IfOk result (λ answer. (who : Option CpuId) →
         WritesWay who (system_plan item) pages.now caller out.old.items out.new.items answer pages.now) }
+    ensures err { OnErr result (Begins out.old.items out.new.items) }
 {
     let value = load_system(out, caller, pages, item)?;
     Ok(clamped(value))
@@ -55,6 +58,7 @@ pub(crate) fn write_snapshot(
     ensures writes { IfOk result (λ answer. (who : Option CpuId) → WritesWay who (snapshot_plan layout.now counter)
         pages.now caller out.old.items out.new.items answer pages.now) }
     ensures is_layout { OnOk result (IsLayout layout.now) }
+    ensures err { OnErr result (Begins out.old.items out.new.items) }
 {
     let mut sum = load_value(out, caller, pages, counter)?;
     for number in 0..layout.cpus() {
@@ -79,6 +83,7 @@ fn write_look(
     ensures look { IfOk result (λ found. (who : Option CpuId) (n : ℕ) (sum : ℤ) → BeginsWriting who
         (looks_plan counter cpu.number (suc n) sum) pages.now caller out.old.items out.new.items
         (looks_plan counter (suc cpu.number) n (sum +ℤ found)) pages.now) }
+    ensures err { OnErr result (Begins out.old.items out.new.items) }
 {
     let state = load_state(out, caller, pages, cpu)?;
     if !is_online(state) {

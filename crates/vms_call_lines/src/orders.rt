@@ -1,6 +1,7 @@
 //! The test of a zone for blocks of an order, and of a node whether it is balanced.
 
-ghost use Rattle.std.specs.Prelude.{◌≡◌, ◌≤◌, ◌^◌, ◌++◌, IfOk, List, None, Option, Some};
+ghost use Rattle.std.specs.Prelude.{◌≡◌, ◌≤◌, ◌^◌, ◌++◌, IfOk, List, None, OnErr, Option, Some};
+ghost use Rattle.vms_text.specs.Common.{Begins};
 ghost use Rattle.vms_calls.specs.Common.{Area, CpuId, IsHeader, IsNode, IsZone, area_at, area_index, areas_from};
 ghost use Rattle.vms_calls.specs.Common.{areas_of, has_room};
 ghost use Rattle.vms_plain_pages.specs.Common.{IsSmallState};
@@ -30,8 +31,9 @@ pub(crate) fn write_balance(
     requires node { IsNode header.now.layout node.number }
     requires order { order ≤ 10 }
     requires most { most ≤ 3 }
-    ensures { IfOk result (λ answer. (who : Option CpuId) → WritesWay who (balance_plan header.now node order most)
+    ensures ok { IfOk result (λ answer. (who : Option CpuId) → WritesWay who (balance_plan header.now node order most)
         pages.now caller out.old.items out.new.items answer pages.now) }
+    ensures err { OnErr result (Begins out.old.items out.new.items) }
 {
     let zones = header.layout.zones();
     let number = header.layout.nodes()[node.number as usize - zones.len()];
@@ -75,8 +77,9 @@ fn write_order(
     requires zone { IsZone header.now.layout zone.number }
     requires most { most ≤ 3 }
     requires order { order ≤ 10 }
-    ensures { IfOk result (λ answer. (who : Option CpuId) → WritesWay who (order_plan header.now zone mark most order)
+    ensures ok { IfOk result (λ answer. (who : Option CpuId) → WritesWay who (order_plan header.now zone mark most order)
         pages.now caller out.old.items out.new.items answer pages.now) }
+    ensures err { OnErr result (Begins out.old.items out.new.items) }
 {
     let verdict = write_test(out, caller, pages, header, zone, mark, most)?;
     if order == 0 {
@@ -114,9 +117,10 @@ fn write_block_within(
     requires least { 1 ≤ order }
     requires most { order ≤ 10 }
     requires limit { limit ≤ 2 ^ 43 }
-    ensures { IfOk result (λ area. (who : Option CpuId) → WritesWay who (either (has_room limit order free)
+    ensures ok { IfOk result (λ area. (who : Option CpuId) → WritesWay who (either (has_room limit order free)
         (blocks_plan header.now.layout zone (areas_from order (areas_of header.now.items))) (ends None))
         pages.now caller out.old.items out.new.items area pages.now) }
+    ensures err { OnErr result (Begins out.old.items out.new.items) }
 {
     if !has_room(limit, order, free) {
         return Ok(None);
@@ -148,9 +152,10 @@ fn write_first_block(
     requires zone { IsZone header.now.layout zone.number }
     requires least { 1 ≤ order }
     requires most { order ≤ 10 }
-    ensures { IfOk result (λ area. (who : Option CpuId) → WritesWay who
+    ensures ok { IfOk result (λ area. (who : Option CpuId) → WritesWay who
         (blocks_plan header.now.layout zone (areas_from order (areas_of header.now.items)))
         pages.now caller out.old.items out.new.items area pages.now) }
+    ensures err { OnErr result (Begins out.old.items out.new.items) }
 {
     for number in order..11 {
         if write_blocks(out, caller, pages, header, zone, number)? {
@@ -174,10 +179,11 @@ fn write_blocks(
     requires zone { IsZone header.now.layout zone.number }
     requires least { 1 ≤ order }
     requires most { order ≤ 10 }
-    ensures { IfOk result (λ found. (who : Option CpuId) (areas : List Area) → BeginsWriting who
+    ensures ok { IfOk result (λ found. (who : Option CpuId) (areas : List Area) → BeginsWriting who
         (blocks_plan header.now.layout zone (area_at order (area_index header.now.items order) ++ areas))
         pages.now caller out.old.items out.new.items
         (either found (ends (Some order)) (blocks_plan header.now.layout zone areas)) pages.now) }
+    ensures err { OnErr result (Begins out.old.items out.new.items) }
 {
     match item_index(header, order) {
         Some(index) => {

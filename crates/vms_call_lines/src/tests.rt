@@ -1,6 +1,7 @@
 //! The test of a watermark.
 
-ghost use Rattle.std.specs.Prelude.{◌≡◌, ◌≤◌, ◌^◌, IfOk, Option};
+ghost use Rattle.std.specs.Prelude.{◌≡◌, ◌≤◌, ◌^◌, IfOk, OnErr, Option};
+ghost use Rattle.vms_text.specs.Common.{Begins};
 ghost use Rattle.vms_calls.specs.Common.{CpuId, IsHeader, IsZone, is_doubtful};
 ghost use Rattle.vms_plain_pages.specs.Common.{IsSmallState};
 ghost use Rattle.vms_plans.specs.Common.{frees_plan, test_plan};
@@ -28,8 +29,9 @@ pub(crate) fn write_test(
     requires room { IsSmallState header.now.layout (2 ^ 61) pages.now }
     requires zone { IsZone header.now.layout zone.number }
     requires most { most ≤ 3 }
-    ensures { IfOk result (λ answer. (who : Option CpuId) → WritesWay who (test_plan header.now zone mark most)
+    ensures ok { IfOk result (λ answer. (who : Option CpuId) → WritesWay who (test_plan header.now zone mark most)
         pages.now caller out.old.items out.new.items answer pages.now) }
+    ensures err { OnErr result (Begins out.old.items out.new.items) }
 {
     let counter = header.layout.counter(zone, 0);
     let first = load_mark(out, caller, pages, zone)?;
@@ -56,9 +58,10 @@ fn write_frees(
     requires room { IsSmallState header.now.layout (2 ^ 61) pages.now }
     requires zone { IsZone header.now.layout zone.number }
     requires most { most ≤ 3 }
-    ensures { IfOk result (λ answer. (who : Option CpuId) → WritesWay who
+    ensures ok { IfOk result (λ answer. (who : Option CpuId) → WritesWay who
         (frees_plan header.now zone mark most doubt value) pages.now caller out.old.items out.new.items answer
         pages.now) }
+    ensures err { OnErr result (Begins out.old.items out.new.items) }
 {
     let limit = limit(header, zone, mark, most);
     if !doubt {

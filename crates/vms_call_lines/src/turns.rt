@@ -1,6 +1,7 @@
 //! A turn of kswapd.
 
-ghost use Rattle.std.specs.Prelude.{◌≡◌, ◌-◌, ◌^◌, ◌≤◌, IfOk, OnOk};
+ghost use Rattle.std.specs.Prelude.{◌≡◌, ◌-◌, ◌^◌, ◌≤◌, IfOk, OnErr, OnOk};
+ghost use Rattle.vms_text.specs.Common.{Begins};
 ghost use Rattle.vms_calls.specs.Common.{HasOnline, HasShape, IsHeader, IsNode, IsTurn, SetsAfterYes, State, facts_of};
 ghost use Rattle.vms_calls.specs.Common.{most_sets};
 ghost use Rattle.vms_plain_pages.specs.Common.{IsSmallState, balance_at};
@@ -44,6 +45,7 @@ pub(crate) fn write_turn<N: Rule, P: Rule>(
     ensures rest { OnOk result (SetsOnly pages.old pages.new) }
     ensures sets { OnOk result (SetsEachAtMost header.now.layout 2 pages.old pages.new) }
     ensures full { OnOk result (HasAllPeaks header.now.layout peaks.new) }
+    ensures err { OnErr result (Begins out.old.items out.new.items) }
 {
     looks_may_be_made();
     write_node_rating(
@@ -84,6 +86,7 @@ fn write_settling<N: Rule, P: Rule>(
     ensures rest { SetsOnly pages.old pages.new }
     ensures sets { SetsEachAtMost header.now.layout 1 pages.old pages.new }
     ensures full { HasAllPeaks header.now.layout peaks.new }
+    ensures err { OnErr result (Begins out.old.items out.new.items) }
 {
     match balance {
         Balance::Yes(_, _) => {

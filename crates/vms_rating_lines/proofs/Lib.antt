@@ -7,4 +7,6 @@ pub mod WrittenRatings
 pub mod StepLines
 pub mod LinesLeft
 pub mod VisitLines
+pub mod Begun
+pub mod BothWays
 pub mod Common

@@ -1,6 +1,7 @@
 //! The calls that rate zones.
 
-ghost use Rattle.std.specs.Prelude.{◌≡◌, ◌≢◌, ◌-◌, ◌++◌, OnOk};
+ghost use Rattle.std.specs.Prelude.{◌≡◌, ◌≢◌, ◌-◌, ◌++◌, OnErr, OnOk};
+ghost use Rattle.vms_text.specs.Common.{Begins};
 ghost use Rattle.vms_calls.specs.Common.{HasOnline, HasShape, IsHeader, IsNode, RatesNode, Refreshes, choice_of};
 ghost use Rattle.vms_calls.specs.Common.{facts_of, most_sets};
 ghost use Rattle.vms_calls.specs.declared.choices.Rating.TheVariants.{Refresh};
@@ -42,6 +43,7 @@ pub fn write_node_rating<N: Rule, P: Rule>(
     ensures sets { SetsEachAtMost header.now.layout 1 pages.old pages.new }
     ensures shaped { HasShape header.now.layout pages.new }
     ensures full { HasAllPeaks header.now.layout peaks.new }
+    ensures begins { Begins out.old.items out.new.items }
 {
     let found = load_marks(pages, &header.layout);
     rate_node(pages, peaks, header, rules, node, rating);
@@ -70,6 +72,7 @@ pub fn write_refresh<N: Rule, P: Rule>(
     ensures sets { SetsEachAtMost header.now.layout 1 pages.old pages.new }
     ensures shaped { HasShape header.now.layout pages.new }
     ensures full { HasAllPeaks header.now.layout peaks.new }
+    ensures begins { Begins out.old.items out.new.items }
 {
     let found = load_marks(pages, &header.layout);
     refresh(pages, peaks, header, rules);
@@ -118,8 +121,9 @@ fn write_node(
 ) -> Result<(), Memory>
     requires shaped { HasShape layout.now pages.now }
     requires node { IsNode layout.now node.number }
-    ensures { OnOk result (out.new.items
+    ensures ok { OnOk result (out.new.items
         ≡ out.old.items ++ step_lines caller (node_told layout.now node pages.now found.now)) }
+    ensures err { OnErr result (Begins out.old.items out.new.items) }
 {
     write_states(out, caller, pages, layout)?;
     let number = layout.nodes()[node.number as usize - layout.zones().len()];
@@ -144,8 +148,9 @@ fn write_all(
     found: &[MarkRead; 16],
 ) -> Result<(), Memory>
     requires shaped { HasShape layout.now pages.now }
-    ensures { OnOk result (out.new.items
+    ensures ok { OnOk result (out.new.items
         ≡ out.old.items ++ step_lines caller (refresh_told layout.now pages.now found.now)) }
+    ensures err { OnErr result (Begins out.old.items out.new.items) }
 {
     write_states(out, caller, pages, layout)?;
     for zone in 0..layout.zones().len() {

@@ -1,6 +1,7 @@
 //! The lines of visits of zones, by the marks that were found and by what stands after them.
 
-ghost use Rattle.std.specs.Prelude.{◌≡◌, ◌++◌, OnOk, length};
+ghost use Rattle.std.specs.Prelude.{◌≡◌, ◌++◌, OnErr, OnOk, length};
+ghost use Rattle.vms_text.specs.Common.{Begins};
 ghost use Rattle.vms_calls.specs.Common.{HasShape, IsPlace, IsZone, in_turn, state_steps, is_online as tells_online};
 ghost use Rattle.vms_rating_lines.specs.Lines.{step_lines};
 ghost use Rattle.vms_rating_lines.specs.ToldSteps.{acknowledged_told, sets_told, thresholds_told, visit_told};
@@ -17,8 +18,9 @@ pub(crate) fn write_states(
     layout: &Layout,
 ) -> Result<(), Memory>
     requires shaped { HasShape layout.now pages.now }
-    ensures { OnOk result (out.new.items
+    ensures ok { OnOk result (out.new.items
         ≡ out.old.items ++ step_lines caller (in_turn state_steps 0 pages.now.cpu)) }
+    ensures err { OnErr result (Begins out.old.items out.new.items) }
 {
     for number in 0..layout.cpus() {
         let cpu = CpuId { number };
@@ -39,8 +41,9 @@ pub(crate) fn write_visit(
 ) -> Result<(), Memory>
     requires shaped { HasShape layout.now pages.now }
     requires zone { IsZone layout.now zone.number }
-    ensures { OnOk result (out.new.items
+    ensures ok { OnOk result (out.new.items
         ≡ out.old.items ++ step_lines caller (visit_told pages.now found spared zone.number)) }
+    ensures err { OnErr result (Begins out.old.items out.new.items) }
 {
     write_acknowledged(out, caller, pages, layout, zone)?;
     push_event_line(out, caller, &Step::LoadM(zone, found.mark, found.number))?;
@@ -60,8 +63,9 @@ fn write_acknowledged(
 ) -> Result<(), Memory>
     requires shaped { HasShape layout.now pages.now }
     requires zone { IsZone layout.now zone.number }
-    ensures { OnOk result (out.new.items
+    ensures ok { OnOk result (out.new.items
         ≡ out.old.items ++ step_lines caller (acknowledged_told pages.now zone.number)) }
+    ensures err { OnErr result (Begins out.old.items out.new.items) }
 {
     for number in 0..layout.cpus() {
         let cpu = CpuId { number };
@@ -84,8 +88,9 @@ fn write_sets(
 ) -> Result<(), Memory>
     requires shaped { HasShape layout.now pages.now }
     requires zone { IsZone layout.now zone.number }
-    ensures { OnOk result (out.new.items
+    ensures ok { OnOk result (out.new.items
         ≡ out.old.items ++ step_lines caller (sets_told pages.now found zone.number)) }
+    ensures err { OnErr result (Begins out.old.items out.new.items) }
 {
     let mark = pages.load_mark(zone).mark;
     if mark != found {
@@ -104,8 +109,9 @@ pub(crate) fn write_thresholds(
 ) -> Result<(), Memory>
     requires shaped { HasShape layout.now pages.now }
     requires place { IsPlace layout.now place.number }
-    ensures { OnOk result (out.new.items
+    ensures ok { OnOk result (out.new.items
         ≡ out.old.items ++ step_lines caller (thresholds_told pages.now place.number)) }
+    ensures err { OnErr result (Begins out.old.items out.new.items) }
 {
     for number in 0..layout.cpus() {
         let cpu = CpuId { number };

@@ -12,6 +12,7 @@ use Rattle.vms_plain_pages.proofs.SnapshotSteps.{snapshot-made}
 use Rattle.vms_plain_pages.proofs.TestSteps.{test-made}
 use Rattle.vms_plain_pages.specs.Common.{snapshot_of, verdict_at}
 use Rattle.vms_plain_control.specs.PageCalls.{FitsPageCall, HasAllForCall}
+use Rattle.vms_text.proofs.Common.{OnErr-true}
 use Rattle.vms_call_lines.specs.Calls.{WritesCall}
 use Rattle.vms_call_lines.specs.Folds.{WritesFold}
 use Rattle.vms_call_lines.proofs.CallLines.{change-written, fold-written, look-written}
@@ -35,7 +36,7 @@ returns-in-Change-clause-writes g c =
     (λ writes. change-written header pressure normal writes.0 k _ how c.args.call owner p s new.pages writes.1
     c.args.peaks.now out new.out.items
     (c.in-Change.is ∙ ap (λ (z : ℤ). Change k z how) (sym (to_z-of_z fits))) writes.2 writes.3 writes.4)
-    c.write_own_change.ensures
+    c.write_own_change.ensures.ok
 
 pub returns-in_ok-write_test-in-Test-clause-writes : goal.returns-in_ok-write_test-in-Test-clause-writes
 returns-in_ok-write_test-in-Test-clause-writes g c =
@@ -56,7 +57,7 @@ returns-in_ok-write_test-in-Test-clause-writes g c =
     (λ (v : Verdict). answer.Tested v) (test_plan header zone mark most) _ c.tells.ensures.pressure c.tells.ensures.normal
     c.in-Test.is refl (λ k delta how same. cc) (λ base h. refl) (refl, refl)
     (λ base h q. test-made header has.0.is_layout s has.1 zone fits.0 mark most owner)
-    (c.in_ok-write_test-in-Test.ensures owner)
+    (c.in_ok-write_test-in-Test.ensures.ok owner)
 
 pub returns-in_ok-write_value-in-Value-clause-writes : goal.returns-in_ok-write_value-in-Value-clause-writes
 returns-in_ok-write_value-in-Value-clause-writes g c =
@@ -73,7 +74,7 @@ returns-in_ok-write_value-in-Value-clause-writes g c =
     (answer.Value (at_least_zero value)) (λ (n : ℕ). answer.Value n) (value_plan k) _ c.tells.ensures.pressure
     c.tells.ensures.normal c.in-Value.is refl (λ k delta how same. cc) (λ base h. refl) (refl, refl)
     (λ base h q. (LoadG k value ∷ [], record { value = value; in_order = refl; answers = refl }, (refl, refl)))
-    (c.in_ok-write_value-in-Value.ensures owner)
+    (c.in_ok-write_value-in-Value.ensures.ok owner)
 
 pub returns-in_ok-write_snapshot-in-Snapshot-clause-writes : goal.returns-in_ok-write_snapshot-in-Snapshot-clause-writes
 returns-in_ok-write_snapshot-in-Snapshot-clause-writes g c =
@@ -109,7 +110,7 @@ returns-in_ok-write_system-in-System-clause-writes g c =
     c.write_system.new.out.items (answer.System (at_least_zero value)) (λ (n : ℕ). answer.System n) (system_plan i) _
     c.tells.ensures.pressure c.tells.ensures.normal c.in-System.is refl (λ k delta how same. cc) (λ base h. refl)
     (refl, refl) (λ base h q. (LoadS i value ∷ [], record { value = value; in_order = refl; answers = refl }, (refl, refl)))
-    (c.in_ok-write_system-in-System.ensures owner)
+    (c.in_ok-write_system-in-System.ensures.ok owner)
 
 pub returns-in-Fold-clause-writes : goal.returns-in-Fold-clause-writes
 returns-in-Fold-clause-writes g c =
@@ -129,7 +130,7 @@ returns-in-Fold-clause-writes g c =
     (sym c.in-Fold.is)
     (fold-written header pressure normal cpu owner p s next peaks out out' c.tells.ensures.pressure c.tells.ensures.normal
     (subst (λ (b : Bool). WritesFold header.layout b cpu p s next out out') c.owns_cpu-own.ensures writes)))
-    c.write_fold.ensures
+    c.write_fold.ensures.ok
 
 pub returns-in-SetPressure-clause-writes : goal.returns-in-SetPressure-clause-writes
 returns-in-SetPressure-clause-writes g c =
@@ -185,3 +186,13 @@ returns-in_ok-write_turn-in-Turn-clause-writes g c =
     (answer.Balanced _) c.args.caller s new.pages c.args.peaks.now new.peaks c.args.out.now.items new.out.items
     c.in-Turn.is fits.0 (λ k delta how same. cc) (turn.answer, turn.rest, turn.sets)
     (λ base h p controls unladen. turn.writes base h p controls)
+
+pub returns-in-SetPressure-clause-err : goal.returns-in-SetPressure-clause-err
+returns-in-SetPressure-clause-err g c =
+    OnErr-true c.write_node_rating.result _
+    c.write_node_rating.ensures.begins
+
+pub returns-in-SetNormal-clause-err : goal.returns-in-SetNormal-clause-err
+returns-in-SetNormal-clause-err g c =
+    OnErr-true c.write_node_rating-in-SetNormal.result _
+    c.write_node_rating-in-SetNormal.ensures.begins

@@ -7,9 +7,9 @@ use Rattle.vms_plans.specs.Common.{change_plan}
 use Rattle.vms_call_lines.specs.Lines.{WritesWay}
 use Rattle.vms_call_lines.proofs.calls.write_own_change.Goals as goal
 
-pub returns-in_ok-write_change-in-Some : goal.returns-in_ok-write_change-in-Some
-returns-in_ok-write_change-in-Some c =
-    let written = c.in_ok-write_change-in-Some.ensures in
+pub returns-in_ok-write_change-in-Some-clause-ok : goal.returns-in_ok-write_change-in-Some-clause-ok
+returns-in_ok-write_change-in-Some-clause-ok c =
+    let written = c.in_ok-write_change-in-Some.ensures.ok in
     let shape = c.args.header.now.layout in
     let cpu = c.in-Some.cpu in
     let k = c.args.counter in

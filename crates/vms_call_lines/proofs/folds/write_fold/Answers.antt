@@ -2,6 +2,7 @@
 use Rattle.std.proofs.Common.{◌≡◌, ℕ, ◌+◌, ◌*◌, ◌^◌, subst, arith}
 use Rattle.std.proofs.lemmas.Result.{on_ok_weaker}
 use Rattle.vms_calls.specs.Common.{IsPlace, place_count}
+use Rattle.vms_text.proofs.Common.{Begins-after, OnErr-from, OnErr-true}
 use Rattle.vms_base.proofs.Common.{place_count-most}
 use Rattle.vms_plain_pages.proofs.FoldedCounters.{IsSmallState-folded}
 use Rattle.vms_plain_pages.proofs.SmallSums.{AreSums-more, AreSums-zeros, no_sums, sum_at-zeros}
@@ -56,8 +57,8 @@ write_sums-requires-clause-sums c =
     ))
     c.loop-number.invariant.1
 
-pub returns : goal.returns
-returns c =
+pub returns-clause-ok : goal.returns-clause-ok
+returns-clause-ok c =
     let shape = c.args.layout.now in
     let all : c.loop-number.number ≡ place_count shape = omega (
       arith,
@@ -71,4 +72,15 @@ returns c =
     c.write_sums.new.out.items (sum_at-zeros 32)
     (subst (λ (n : ℕ). WritesPlaces shape c.args.own c.args.cpu c.args.caller n c.args.pages.now c.loop-number.pages
     no_sums c.loop-number.sums c.args.out.now.items c.loop-number.out.items) all c.loop-number.invariant.0) adds)
-    c.write_sums.ensures
+    c.write_sums.ensures.ok
+
+pub returns-in_err-write_place-clause-err : goal.returns-in_err-write_place-clause-err
+returns-in_err-write_place-clause-err c =
+    OnErr-true c.from_residual.result _
+    (Begins-after _ _ _ _ c.loop-number.invariant.0.lines c.in_err-write_place.ensures.err)
+
+pub returns-clause-err : goal.returns-clause-err
+returns-clause-err c =
+    OnErr-from c.write_sums.result _ _
+    (λ begins. Begins-after _ _ _ _ c.loop-number.invariant.0.lines begins)
+    c.write_sums.ensures.err

@@ -3,11 +3,13 @@ use Rattle.std.proofs.Common.{◌≡◌, ℕ, ◌+◌, ◌*◌, ◌^◌, ◌<◌
 use Rattle.std.proofs.Common.{sym, ap, ◌++◌, subst, ◌∙◌, arith, length-set, unsigned_abs}
 use Rattle.std.proofs.lemmas.Int.{ints, to_z-of_z}
 use Rattle.vms_calls.specs.Common.{IsCounter, State, to_place, value_at}
+use Rattle.vms_text.proofs.Common.{Begins-after, OnErr-true}
 use Rattle.vms_base.proofs.Common.{IsCounter-member, group_count-most, item_of-lt}
 use Rattle.vms_plain_pages.proofs.SmallSums.{AreSums-more}
 use Rattle.vms_plain_pages.proofs.FoldedPlaces.{item_count-most}
 use Rattle.vms_plain_pages.proofs.TakenGroups.{AddsEntries, AddsEntries-more, AddsEntries-none, AreSums-entries}
 use Rattle.vms_rating_lines.specs.Lines.{step_lines}
+use Rattle.vms_rating_lines.proofs.Common.{Begins-more, Begins-self, Begins-then}
 use Rattle.vms_call_lines.proofs.FoldLines.{EntriesLeft, entries-next, entries-none, writes-group}
 use Rattle.vms_call_lines.proofs.folds.write_group.Goals as goal
 
@@ -16,6 +18,7 @@ loop-n-init c = (
   AddsEntries-none c.args.layout.now c.args.group.number c.take-found.result.values c.take-found.new.self
       c.args.sums.now,
   entries-none c.args.caller c.args.group.number c.take-found.result.values c.push_event_line.new.out.items,
+  Begins-self c.push_event_line.new.out.items,
 )
 
 pub overflow_mul-counter : goal.overflow_mul-counter
@@ -69,6 +72,7 @@ loop-n-preserved c =
       entries-next c.args.caller j values c.push_event_line.new.out.items n c.loop-n.out.items
           c.write_entry.new.out.items less c.loop-n.invariant.1
           (entry.lines ∙ ap (λ (x : ℤ). c.loop-n.out.items ++ step_lines c.args.caller (to_place (8 * j + n) x)) same),
+      Begins-more _ _ _ _ c.loop-n.invariant.2 entry.lines,
     )
 
 pub returns-clause-writes : goal.returns-clause-writes
@@ -93,3 +97,9 @@ returns-clause-sums c = λ most small.
     AreSums-more (most + c.loop-n.n * 128) (most + 1024) c.loop-n.sums (omega arith)
     (AreSums-entries c.args.layout.now c.args.group.number c.take-found.result.values c.take-found.new.self
     c.args.sums.now c.take-found.result.bytes c.loop-n.n most c.loop-n.pages c.loop-n.sums c.loop-n.invariant.0 small)
+
+pub returns-in_err-write_entry-clause-err : goal.returns-in_err-write_entry-clause-err
+returns-in_err-write_entry-clause-err c =
+    OnErr-true c.from_residual-in_err-write_entry.result _
+    (Begins-after _ _ _ _ c.in_ok-push_event_line.ensures.ok
+    (Begins-then _ _ _ c.loop-n.invariant.2 c.in_err-write_entry.ensures.err))

@@ -1,6 +1,7 @@
 -- A group more, and all groups of the place at the end.
 use Rattle.std.proofs.Common.{◌≡◌, ℕ, ◌+◌, ◌*◌, ◌/◌, ◌^◌, ◌≤◌, sym, ap, subst, ◌∙◌, arith}
 use Rattle.vms_calls.specs.Common.{IsGroup, counter_at, counter_count, group_of}
+use Rattle.vms_text.proofs.Common.{Begins-after, OnErr-true}
 use Rattle.vms_base.proofs.Common.{group_count-most, group_count-whole}
 use Rattle.vms_plain_pages.proofs.FoldedCounters.{IsSmallState-folded}
 use Rattle.vms_plain_pages.proofs.FoldedPlaces.{first_group, group-within}
@@ -65,3 +66,8 @@ returns-clause-writes c =
     c.args.sums.now c.loop-n.sums c.args.out.now.items c.loop-n.out.items) at
     (subst (λ (n : ℕ). WritesGroups shape c.args.cpu first n c.args.caller s c.loop-n.pages c.args.sums.now
     c.loop-n.sums c.args.out.now.items c.loop-n.out.items) all c.loop-n.invariant.0)
+
+pub returns-in_err-write_group-clause-err : goal.returns-in_err-write_group-clause-err
+returns-in_err-write_group-clause-err c =
+    OnErr-true c.from_residual.result _
+    (Begins-after _ _ _ _ c.loop-n.invariant.0.lines c.in_err-write_group.ensures.err)

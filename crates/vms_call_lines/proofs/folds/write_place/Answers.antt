@@ -4,6 +4,7 @@ use Rattle.std.proofs.Math.Bool.{and-false}
 use Rattle.std.proofs.lemmas.Bool.Decides.{nat_tests}
 use Rattle.std.proofs.lemmas.Result.{on_ok_weaker}
 use Rattle.vms_calls.specs.Common.{IsZone, acknowledges}
+use Rattle.vms_text.proofs.Common.{Begins-after, OnErr-true}
 use Rattle.vms_call_lines.proofs.FoldLines.{writes-acknowledged, writes-plain}
 use Rattle.vms_call_lines.proofs.folds.write_place.Goals as goal
 use Rattle.vms_call_lines.proofs.folds.write_place.Goals.{else-own-via-then-own+else-place-zones, else-own-via-else-own}
@@ -36,3 +37,9 @@ returns-else-own-clause-writes c =
     c.args.place.number c.args.caller c.args.pages.now c.write_groups-else-own.new.pages c.requires.room.shaped
     c.args.sums.now c.write_groups-else-own.new.sums c.args.out.now.items c.write_groups-else-own.new.out.items writes none)
     c.write_groups-else-own.ensures.writes
+
+pub returns-in_err-push_event_line-2-clause-err : goal.returns-in_err-push_event_line-2-clause-err
+returns-in_err-push_event_line-2-clause-err c =
+    OnErr-true c.from_residual-in_err-push_event_line-2.result _
+    (Begins-after _ _ _ _ c.in_ok-push_event_line.ensures.ok
+    (Begins-after _ _ _ _ c.in_ok-write_groups.ensures.writes.lines c.in_err-push_event_line-2.ensures.err))

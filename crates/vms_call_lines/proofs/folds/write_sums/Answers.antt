@@ -3,8 +3,10 @@ use Rattle.std.proofs.Common.{◌≡◌, ℕ, ◌<◌, ◌≤◌, ◌^◌, ◌++
 use Rattle.std.proofs.Common.{unsigned_abs, ap, sym, subst, ◌∙◌, arith}
 use Rattle.std.proofs.lemmas.Int.{ints, to_z-of_z}
 use Rattle.vms_calls.specs.Common.{IsItem, item_count, to_system}
+use Rattle.vms_text.proofs.Common.{OnErr-true}
 use Rattle.vms_plain_pages.proofs.AddedSums.{AddsBelow, AddsBelow-more, AddsBelow-none, AddsSums-all}
 use Rattle.vms_rating_lines.specs.Lines.{step_lines}
+use Rattle.vms_rating_lines.proofs.Common.{Begins-more, Begins-self, Begins-then}
 use Rattle.vms_call_lines.proofs.FoldLines.{SumsLeft, sums-all, sums-next, sums-none}
 use Rattle.vms_call_lines.proofs.folds.write_sums.Goals as goal
 
@@ -12,6 +14,7 @@ pub loop-number-init : goal.loop-number-init
 loop-number-init c = (
   AddsBelow-none c.args.layout.now c.args.sums.now c.args.pages.now,
   sums-none c.args.layout.now c.args.sums.now c.args.caller c.args.out.now.items,
+  Begins-self c.args.out.now.items,
 )
 
 pub write_sum-requires-clause-item : goal.write_sum-requires-clause-item
@@ -50,10 +53,11 @@ loop-number-preserved c =
       sums-next shape sums c.args.caller c.args.out.now.items n c.loop-number.out.items c.write_sum.new.out.items n_in
           c.loop-number.invariant.1
           (sum.lines ∙ ap (λ (x : ℤ). c.loop-number.out.items ++ step_lines c.args.caller (to_system n x)) same),
+      Begins-more _ _ _ _ c.loop-number.invariant.2 sum.lines,
     )
 
-pub returns : goal.returns
-returns c =
+pub returns-clause-ok : goal.returns-clause-ok
+returns-clause-ok c =
     let shape = c.args.layout.now in
     let sums = c.args.sums.now in
     let all : c.loop-number.number ≡ item_count shape = omega (
@@ -67,3 +71,8 @@ returns c =
     (subst (λ (n : ℕ). AddsBelow shape sums c.args.pages.now n c.loop-number.pages) all c.loop-number.invariant.0))
     (subst (λ (n : ℕ). SumsLeft shape sums c.args.caller c.args.out.now.items n c.loop-number.out.items) all
     c.loop-number.invariant.1)
+
+pub returns-in_err-write_sum-clause-err : goal.returns-in_err-write_sum-clause-err
+returns-in_err-write_sum-clause-err c =
+    OnErr-true c.from_residual.result _
+    (Begins-then _ _ _ c.loop-number.invariant.2 c.in_err-write_sum.ensures.err)

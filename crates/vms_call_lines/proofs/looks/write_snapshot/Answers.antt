@@ -1,8 +1,9 @@
 -- Each CPU is looked at.
 use Rattle.std.proofs.Common.{◌≡◌, ℕ, ◌-◌, ◌≤◌, ◌^◌, ◌+ℤ◌, ℤ, FitsSigned, to_z, of_z, w64, unsigned_abs, sym, ap, subst}
-use Rattle.std.proofs.Common.{◌∙◌, arith}
+use Rattle.std.proofs.Common.{None, ◌∙◌, arith}
 use Rattle.std.proofs.lemmas.Int.{ints, to_z-of_z}
 use Rattle.vms_plans.specs.Common.{looks_plan}
+use Rattle.vms_text.proofs.Common.{Begins-after, OnErr-true}
 use Rattle.vms_call_lines.specs.Lines.{BeginsWriting}
 use Rattle.vms_call_lines.proofs.LookWays.{looks-next, writes-snapshot}
 use Rattle.vms_call_lines.proofs.Writing.{begins-nothing}
@@ -51,3 +52,9 @@ returns-clause-writes c = λ who.
     c.load_value.new.out.items c.loop-number.out.items c.in_ok-sum.ensures.load.0 c.in_ok-sum.ensures.load.1
     (to_z-of_z w64 c.in_ok-sum.sum c.in_ok-sum.ensures.fits) (c.loop-number.invariant.looks who)
     (omega (arith, c.loop-number-test.false, c.cpus-number-end.ensures.value)) c.clamped.ensures
+
+pub returns-in_err-sum-2-clause-err : goal.returns-in_err-sum-2-clause-err
+returns-in_err-sum-2-clause-err c =
+    OnErr-true c.from_residual-in_err-sum-2.result _
+    (Begins-after _ _ _ _ c.in_ok-sum.ensures.load.1
+    (Begins-after _ _ _ _ (c.loop-number.invariant.looks None).lines c.in_err-sum-2.ensures.err))

@@ -5,8 +5,8 @@ use Rattle.vms_calls.specs.Common.{at_least_zero}
 use Rattle.vms_call_lines.proofs.LookWays.{writes-system}
 use Rattle.vms_call_lines.proofs.looks.write_system.Goals as goal
 
-pub returns : goal.returns
-returns c = λ who.
+pub returns-clause-ok : goal.returns-clause-ok
+returns-clause-ok c = λ who.
     let told = c.in_ok-value.ensures in
     writes-system who c.args.pages.now c.args.caller c.args.out.now.items c.load_system.new.out.items c.args.item
     c.in_ok-value.value c.clamped.result told.load.0 told.load.1

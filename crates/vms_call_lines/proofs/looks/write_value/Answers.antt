@@ -5,8 +5,8 @@ use Rattle.vms_calls.specs.Common.{at_least_zero}
 use Rattle.vms_call_lines.proofs.LookWays.{writes-value}
 use Rattle.vms_call_lines.proofs.looks.write_value.Goals as goal
 
-pub returns : goal.returns
-returns c = λ who.
+pub returns-clause-ok : goal.returns-clause-ok
+returns-clause-ok c = λ who.
     let told = c.in_ok-value.ensures in
     writes-value who c.args.pages.now c.args.caller c.args.out.now.items c.load_value.new.out.items c.args.counter
     c.in_ok-value.value c.clamped.result told.load.0 told.load.1

@@ -1,7 +1,8 @@
 -- A zone that passes ends the test, and one that fails is passed over.
-use Rattle.std.proofs.Common.{◌≡◌, ℕ, ◌-◌, ◌<◌, List, length, get_or, sym, ap, ◌∙◌, arith}
+use Rattle.std.proofs.Common.{◌≡◌, ℕ, ◌-◌, ◌<◌, List, length, get_or, sym, ap, ◌∙◌, arith, None}
 use Rattle.vms_calls.specs.Common.{Dma, ZoneName, node_number}
 use Rattle.vms_calls.proofs.Common.{is_one-told}
+use Rattle.vms_text.proofs.Common.{Begins-after, OnErr-true}
 use Rattle.vms_call_lines.proofs.OrderWays.{writes-balance, zone-fails, zone-other, zone-passes, zones-begun}
 use Rattle.vms_call_lines.proofs.OrderWays.{zones-done}
 use Rattle.vms_call_lines.proofs.orders.write_balance.Goals as goal
@@ -29,7 +30,7 @@ loop-place-preserved c = λ who.
           (zone-fails who c.args.pages.now c.args.caller header c.args.most c.args.order node place all
           c.args.out.now.items c.loop-place.out.items w.write_order.new.out.items c.loop-place-test.true
           (c.loop-place.invariant who) (sym told ∙ sym c.is_up_to.ensures ∙ w.if-is_up_to.true) w.in_ok-verdict.verdict
-          (w.in_ok-verdict.ensures who) w.if-verdict.false)
+          (w.in_ok-verdict.ensures.ok who) w.if-verdict.false)
       | else-is_up_to w ↦
           rw w.out-is
           (zone-other who c.args.pages.now c.args.caller header c.args.most c.args.order node place all
@@ -37,8 +38,8 @@ loop-place-preserved c = λ who.
           (c.loop-place.invariant who) (sym told ∙ sym c.is_up_to.ensures ∙ w.if-is_up_to.false))
     ]
 
-pub returns-then-verdict : goal.returns-then-verdict
-returns-then-verdict c = λ who.
+pub returns-then-verdict-clause-ok : goal.returns-then-verdict-clause-ok
+returns-then-verdict-clause-ok c = λ who.
     let header = c.args.header.now in
     let node = get_or c.nodes.result.now (c.args.node.number - length c.zones-zones.result.now) 0 in
     let place = c.loop-place.place in
@@ -57,10 +58,10 @@ returns-then-verdict c = λ who.
     (zone-passes who c.args.pages.now c.args.caller header c.args.most c.args.order node place all
     c.args.out.now.items c.loop-place.out.items c.write_order.new.out.items c.loop-place-test.true
     (c.loop-place.invariant who) (sym told ∙ sym c.is_up_to.ensures ∙ c.if-is_up_to.true) c.in_ok-verdict.verdict
-    (c.in_ok-verdict.ensures who) c.if-verdict.true)
+    (c.in_ok-verdict.ensures.ok who) c.if-verdict.true)
 
-pub returns : goal.returns
-returns c = λ who.
+pub returns-clause-ok : goal.returns-clause-ok
+returns-clause-ok c = λ who.
     let header = c.args.header.now in
     let node = get_or c.nodes.result.now (c.args.node.number - length c.zones-zones.result.now) 0 in
     let all = length c.zones-zones.result.now in
@@ -72,3 +73,8 @@ returns c = λ who.
     c.args.out.now.items c.loop-place.out.items number (ap length c.zones-zones.ensures.value)
     (zones-done who c.args.pages.now c.args.caller header c.args.most c.args.order node c.loop-place.place all
     c.args.out.now.items c.loop-place.out.items (omega (arith, c.loop-place-test.false)) (c.loop-place.invariant who))
+
+pub returns-in_err-verdict-clause-err : goal.returns-in_err-verdict-clause-err
+returns-in_err-verdict-clause-err c =
+    OnErr-true c.from_residual.result _
+    (Begins-after _ _ _ _ (c.loop-place.invariant None).lines c.in_err-verdict.ensures.err)

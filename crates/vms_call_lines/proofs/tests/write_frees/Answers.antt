@@ -7,8 +7,8 @@ use Rattle.vms_call_lines.specs.Lines.{WritesWay}
 use Rattle.vms_call_lines.proofs.TestWays.{writes-fast, writes-slow}
 use Rattle.vms_call_lines.proofs.tests.write_frees.Goals as goal
 
-pub returns-then-not-doubt : goal.returns-then-not-doubt
-returns-then-not-doubt c = λ who.
+pub returns-then-not-doubt-clause-ok : goal.returns-then-not-doubt-clause-ok
+returns-then-not-doubt-clause-ok c = λ who.
     subst (λ (b : Bool). WritesWay who (frees_plan c.args.header.now c.args.zone c.args.mark c.args.most b c.args.value)
     c.args.pages.now c.args.caller c.args.out.now.items c.args.out.now.items
     (record { yes = nat_lt c.limit-limit.result c.clamped-free.result; free = c.clamped-free.result; fast = true })
@@ -17,8 +17,8 @@ returns-then-not-doubt c = λ who.
     c.limit-limit.result c.clamped-free.result c.args.value c.args.out.now.items c.limit-limit.ensures.value
     (c.clamped-free.ensures ∙ ap at_least_zero (to_z-of_z w64 c.args.value c.ranges.value)))
 
-pub returns : goal.returns
-returns c = λ who.
+pub returns-clause-ok : goal.returns-clause-ok
+returns-clause-ok c = λ who.
     subst (λ (b : Bool). WritesWay who (frees_plan c.args.header.now c.args.zone c.args.mark c.args.most b c.args.value)
     c.args.pages.now c.args.caller c.args.out.now.items c.write_snapshot.new.out.items
     (record { yes = nat_lt c.limit-limit.result c.in_ok-free.free; free = c.in_ok-free.free; fast = false })

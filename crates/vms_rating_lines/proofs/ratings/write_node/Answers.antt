@@ -1,5 +1,6 @@
 -- The next zone is visited, if it is on the node; the visits come after the loads of the CPUs' states.
 use Rattle.std.proofs.Common.{◌≡◌, ℕ, ◌+◌, ◌-◌, Bool, ◌++◌, List, length, nat_eq, get_or, sym, ap, ◌∙◌, arith}
+use Rattle.vms_text.proofs.Common.{Begins-after, OnErr-true}
 use Rattle.vms_calls.specs.Common.{in_turn, node_number, state_steps}
 use Rattle.vms_calls.proofs.Common.{on-false, on-true, zones-more, zones-same, zones_so_far}
 use Rattle.vms_rating_lines.specs.Lines.{step_lines}
@@ -24,7 +25,7 @@ loop-zone-preserved c =
           w.if-zones-zone.true in
           visited-next s found (λ m. nat_eq m 0) p (zones_so_far shape node n) (zones_so_far shape node (n + 1)) n out
           c.loop-zone.out.items c.if-zones-zone.out.items (zones-more shape node n on) c.loop-zone.invariant
-          (ap (λ (v : _). v.items) w.out-is ∙ w.in_ok-write_visit.ensures)
+          (ap (λ (v : _). v.items) w.out-is ∙ w.in_ok-write_visit.ensures.ok)
       | else-zones-zone w ↦
           let off = on-false shape c.zones-in-loop-zone.result.now n node c.zones-in-loop-zone.ensures.value
           w.if-zones-zone.false in
@@ -33,8 +34,8 @@ loop-zone-preserved c =
           (sym (zones-same shape node n off))
     ]
 
-pub returns : goal.returns
-returns c =
+pub returns-clause-ok : goal.returns-clause-ok
+returns-clause-ok c =
     let p = c.args.caller in
     let shape = c.args.layout.now in
     let s = c.args.pages.now in
@@ -55,6 +56,12 @@ returns c =
     ap (zones_so_far shape node) end ∙ ap (λ (m : ℕ). zones_so_far shape m (length shape.zones)) is_node in
     lines-both p (in_turn state_steps 0 s.cpu)
     (visits_told s found spares (zones_so_far shape (node_number shape c.args.node) (length shape.zones)))
-    c.args.out.now.items c.write_states.new.out.items c.loop-zone.out.items c.in_ok-write_states.ensures
+    c.args.out.now.items c.write_states.new.out.items c.loop-zone.out.items c.in_ok-write_states.ensures.ok
     (c.loop-zone.invariant
     ∙ ap (λ gs. c.write_states.new.out.items ++ step_lines p (visits_told s found spares gs)) all)
+
+pub returns-in_err-write_visit-clause-err : goal.returns-in_err-write_visit-clause-err
+returns-in_err-write_visit-clause-err c =
+    OnErr-true c.from_residual-in_err-write_visit.result _
+    (Begins-after _ _ _ _ c.in_ok-write_states.ensures.ok
+    (Begins-after _ _ _ _ c.loop-zone.invariant c.in_err-write_visit.ensures.err))

@@ -6,8 +6,8 @@ use Rattle.vms_rating_lines.specs.ToldSteps.{acknowledged_told, sets_told, visit
 use Rattle.vms_rating_lines.proofs.StepLines.{lines-around}
 use Rattle.vms_rating_lines.proofs.visits.write_visit.Goals as goal
 
-pub returns-in_ok-write_sets : goal.returns-in_ok-write_sets
-returns-in_ok-write_sets c =
+pub returns-in_ok-write_sets-clause-ok : goal.returns-in_ok-write_sets-clause-ok
+returns-in_ok-write_sets-clause-ok c =
     let p = c.args.caller in
     let s = c.args.pages.now in
     let g = c.args.zone.number in
@@ -17,11 +17,11 @@ returns-in_ok-write_sets c =
     subst (λ (b : Bool). last ≡ c.args.out.now.items ++ step_lines p (visit_told s read b g))
     (sym c.if-not-spared.true)
     (lines-around p (acknowledged_told s g) load (sets_told s read.mark g) c.args.out.now.items
-    c.write_acknowledged.new.out.items c.push_event_line.new.out.items last c.in_ok-write_acknowledged.ensures
-    c.in_ok-push_event_line.ensures.ok c.in_ok-write_sets.ensures)
+    c.write_acknowledged.new.out.items c.push_event_line.new.out.items last c.in_ok-write_acknowledged.ensures.ok
+    c.in_ok-push_event_line.ensures.ok c.in_ok-write_sets.ensures.ok)
 
-pub returns-else-not-spared : goal.returns-else-not-spared
-returns-else-not-spared c =
+pub returns-else-not-spared-clause-ok : goal.returns-else-not-spared-clause-ok
+returns-else-not-spared-clause-ok c =
     let p = c.args.caller in
     let s = c.args.pages.now in
     let g = c.args.zone.number in
@@ -31,4 +31,4 @@ returns-else-not-spared c =
     subst (λ (b : Bool). last ≡ c.args.out.now.items ++ step_lines p (visit_told s read b g))
     (sym c.if-not-spared.false)
     (lines-around p (acknowledged_told s g) load [] c.args.out.now.items c.write_acknowledged.new.out.items last last
-    c.in_ok-write_acknowledged.ensures c.in_ok-push_event_line.ensures.ok (sym (append-nil last)))
+    c.in_ok-write_acknowledged.ensures.ok c.in_ok-push_event_line.ensures.ok (sym (append-nil last)))
