@@ -40,7 +40,7 @@ use Rattle.vms_file_order.proofs.FittingLines.{MayFollow-opening}
 use Rattle.vms_file_order.proofs.PhaseVolumes.{GrowsBy-lines}
 use Rattle.vms_plain_control.specs.PageCalls.{FitsPageCall, HasAllForCall, MaySetThresholds}
 use Rattle.vms_plain_pages.specs.Common.{IsSmallState}
-use Rattle.vms_walks.specs.Rules.{ByFormula}
+use Rattle.vms_walks.specs.Rules.{IsExactly}
 use Rattle.vms_phase_lines.specs.declared.phases.PhaseWriter.{PhaseWriter}
 use Rattle.vms_phase_lines.specs.Common.{IsWriting, lane_makes}
 use Rattle.vms_phase_lines.proofs.PhaseEnds.{IsBase-fit}
@@ -87,10 +87,10 @@ IsItem-known header i is known = by (nat_lt i header.layout.positions) refl know
     by false past holds = omega (arith, holds, most)
 
 abbrev by_pressure : ZoneSize → ℕ → ℕ → Type 0
-by_pressure = ByFormula pressure_threshold_of
+by_pressure = IsExactly pressure_threshold_of
 
 abbrev by_normal : ZoneSize → ℕ → ℕ → Type 0
-by_normal = ByFormula normal_threshold_of
+by_normal = IsExactly normal_threshold_of
 
 module _ (header : Header) (base : State) (all items left : List Item) (item : Item) (h : History)
     (writer : PhaseWriter) (is : IsWriting header base all items h writer) (parts : all ≡ items ++ item ∷ left) where

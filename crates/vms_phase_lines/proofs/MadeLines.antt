@@ -20,7 +20,7 @@ use Rattle.vms_file_order.proofs.FollowedLines.{Follow-line, StandsOpen-line}
 use Rattle.vms_call_lines.specs.Calls.{WritesCall}
 use Rattle.vms_plain_control.specs.Common.{KnowsPeaks, SetAtMost}
 use Rattle.vms_plain_control.specs.PageCalls.{AnswersPageCall, GoesOnByCall}
-use Rattle.vms_walks.specs.Rules.{ByFormula}
+use Rattle.vms_walks.specs.Rules.{IsExactly}
 use Rattle.vms_phase_lines.specs.declared.phases.PhaseWriter.{PhaseWriter}
 use Rattle.vms_phase_lines.specs.Common.{IsWriting, event_lines, lane_makes}
 use Rattle.vms_phase_lines.proofs.EventLines.{lines-of_steps}
@@ -121,7 +121,7 @@ module _ (header : Header) (base : State) (all items left : List Item) (item : I
   line-uncalled none out = goes-on writer.pages writer.peaks (record {
     steps = [];
     making = subst (λ (what : Option PageCall). CallSteps (λ call ks told. IsPageCall header base
-        (ByFormula pressure_threshold_of) (ByFormula normal_threshold_of) call (owner_of item.lane) p h ks told) what
+        (IsExactly pressure_threshold_of) (IsExactly normal_threshold_of) call (owner_of item.lane) p h ks told) what
         []) (sym none) refl;
     alone = All-nil HasWon;
     goes_on = record { legal = is.stands.legal; state = is.stands.state };
@@ -132,21 +132,21 @@ module _ (header : Header) (base : State) (all items left : List Item) (item : I
 
   pub line-called : IsHeader header → (call : PageCall) → page_call item.lane item.act ≡ Some call → (next : State)
       (known : List ℕ) (out out' : List ℕ)
-      → WritesCall header (ByFormula pressure_threshold_of) (ByFormula normal_threshold_of) call (owner_of item.lane) p
+      → WritesCall header (IsExactly pressure_threshold_of) (IsExactly normal_threshold_of) call (owner_of item.lane) p
       writer.pages writer.peaks next known out out'
       → Written next known out out'
   line-called valid call on next known out out' writes =
       let may = MayMakePageCall-found header base all items left item h writer is parts valid call on in
       let made = writes.makes base h may is.stands.state is.peaks in
-      let goes : GoesOnByCall header base (ByFormula pressure_threshold_of) (ByFormula normal_threshold_of) call
+      let goes : GoesOnByCall header base (IsExactly pressure_threshold_of) (IsExactly normal_threshold_of) call
       (owner_of item.lane) p h writes.told next known = made.0 in
-      let left_by = (page-spends (ByFormula pressure_threshold_of) (ByFormula normal_threshold_of) header base call
+      let left_by = (page-spends (IsExactly pressure_threshold_of) (IsExactly normal_threshold_of) header base call
       (owner_of item.lane) p h goes.steps writes.told (base_can_begin pages facts h is.stands.legal).layout goes.is
       (own h p)).carries in
       goes-on next known (record {
         steps = goes.steps;
         making = subst (λ (what : Option PageCall). CallSteps (λ it ks told. IsPageCall header base
-            (ByFormula pressure_threshold_of) (ByFormula normal_threshold_of) it (owner_of item.lane) p h ks told) what
+            (IsExactly pressure_threshold_of) (IsExactly normal_threshold_of) it (owner_of item.lane) p h ks told) what
             goes.steps) (sym on) (writes.told, goes.is);
         alone = goes.alone;
         goes_on = goes.goes_on;

@@ -1,8 +1,9 @@
-ghost use Rattle.std.specs.Prelude.{OnOk};
+ghost use Rattle.std.specs.Prelude.{OnErr, OnOk};
+ghost use Rattle.vms_text.specs.Writing.{Begins};
 ghost use Rattle.vms_world.specs.Common.{IsThresholdRule, normal_threshold_of, pressure_threshold_of};
 ghost use Rattle.vms_call_lines.specs.Calls.{WritesCall};
 ghost use Rattle.vms_plain_control.specs.PageCalls.{FitsPageCall, HasAllForCall};
-ghost use Rattle.vms_walks.specs.Rules.{ByFormula};
+ghost use Rattle.vms_walks.specs.Rules.{IsExactly};
 
 use crate::formulas::{NormalFormula, PressureFormula};
 use vms_base::{CpuId, Header, Memory};
@@ -25,8 +26,9 @@ pub(crate) fn write_by_formulas(
 ) -> Result<(), Memory>
     requires fits { FitsPageCall header.now call owner pages.old }
     requires has { HasAllForCall header.now call pages.old peaks.old }
-    ensures { OnOk result (WritesCall header.now (ByFormula pressure_threshold_of) (ByFormula normal_threshold_of) call
-        owner caller pages.old peaks.old pages.new peaks.new out.old.items out.new.items) }
+    ensures ok { OnOk result (WritesCall header.now (IsExactly pressure_threshold_of) (IsExactly normal_threshold_of)
+        call owner caller pages.old peaks.old pages.new peaks.new out.old.items out.new.items) }
+    ensures err { OnErr result (Begins out.old.items out.new.items) }
 {
     write_by(
         out,
@@ -56,8 +58,9 @@ fn write_by<N: Rule, P: Rule>(
     requires has { HasAllForCall header.now call pages.old peaks.old }
     requires normal { IsThresholdRule (N.accepts normal) (N.answers normal) }
     requires pressure { IsThresholdRule (P.accepts pressure) (P.answers pressure) }
-    ensures { OnOk result (WritesCall header.now (P.answers pressure) (N.answers normal) call
+    ensures ok { OnOk result (WritesCall header.now (P.answers pressure) (N.answers normal) call
         owner caller pages.old peaks.old pages.new peaks.new out.old.items out.new.items) }
+    ensures err { OnErr result (Begins out.old.items out.new.items) }
 {
     let rules = Rules::make(normal, pressure);
     write_call(out, caller, pages, peaks, header, &rules, owner, call)

@@ -2,7 +2,7 @@
 
 ghost use Rattle.std.specs.Prelude.{◌≤◌};
 ghost use Rattle.vms_world.specs.Common.{IsValidSize, normal_threshold_of, pressure_threshold_of};
-ghost use Rattle.vms_walks.specs.Rules.{ByFormula};
+ghost use Rattle.vms_walks.specs.Rules.{IsExactly};
 
 use vms_base::ZoneSize;
 use vms_calc::{Rule, normal_threshold, pressure_threshold};
@@ -14,7 +14,7 @@ pub(crate) struct NormalFormula;
 impl Rule for NormalFormula {
     ghost accepts = { λ rule size online. IsValidSize size × (1 ≤ online) × (online ≤ 128) };
 
-    ghost answers = { λ rule. ByFormula normal_threshold_of };
+    ghost answers = { λ rule. IsExactly normal_threshold_of };
 
     #[inline]
     fn answer(&self, size: &ZoneSize, online: u32) -> u32 {
@@ -29,7 +29,7 @@ pub(crate) struct PressureFormula;
 impl Rule for PressureFormula {
     ghost accepts = { λ rule size online. IsValidSize size × (1 ≤ online) × (online ≤ 128) };
 
-    ghost answers = { λ rule. ByFormula pressure_threshold_of };
+    ghost answers = { λ rule. IsExactly pressure_threshold_of };
 
     #[inline]
     fn answer(&self, size: &ZoneSize, online: u32) -> u32 {

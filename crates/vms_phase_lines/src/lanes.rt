@@ -1,5 +1,6 @@
-ghost use Rattle.std.specs.Prelude.{◌≡◌, ◌^◌, ◌<◌, ◌++◌, ◌∷◌, [], All, IfOk, List, OnOk, false, if◌then◌else◌, length};
-ghost use Rattle.std.specs.Prelude.{ℕ, true};
+ghost use Rattle.std.specs.Prelude.{◌≡◌, ◌^◌, ◌<◌, ◌++◌, ◌∷◌, [], All, IfOk, List, OnErr, OnOk, false, if◌then◌else◌};
+ghost use Rattle.std.specs.Prelude.{length, ℕ, true};
+ghost use Rattle.vms_text.specs.Writing.{Begins};
 ghost use Rattle.vms_world.specs.Common.{IsHeader, IsLaneOf, Lane as LaneOf, is_among, lanes_of, owner_of};
 ghost use Rattle.vms_file_order.specs.Common.{closing_of, page_passes, pass_of};
 ghost use Rattle.vms_phase_lines.specs.Lanes.{HaveBegun, OpensLanes, ShowsLined, slot_of};
@@ -53,8 +54,9 @@ impl LanePasses {
     ) -> Result<LanePasses, Memory>
         requires header { IsHeader header.now }
         requires items { All (λ item. IsLaneOf header.now item.lane) items.now }
-        ensures { IfOk result (λ lanes. OpensLanes header.now (lanes_of header.now.layout items.now) lanes out.old.items
-            out.new.items) }
+        ensures ok { IfOk result (λ lanes. OpensLanes header.now (lanes_of header.now.layout items.now) lanes
+            out.old.items out.new.items) }
+        ensures err { OnErr result (Begins out.old.items out.new.items) }
     {
         let cpus = header.layout.cpus();
         let lined = lined(alloc, header, items)?;
@@ -88,9 +90,10 @@ impl LanePasses {
         requires lane { IsLaneOf header.now lane }
         requires opens { (lanes : List LaneOf) × (first : List ℕ) × (is_among lane lanes ≡ false)
             × (length lanes < 2 ^ 31) × OpensLanes header.now lanes self.old first out.old.items }
-        ensures { OnOk result ((lanes : List LaneOf) (first : List ℕ) → is_among lane lanes ≡ false →
+        ensures ok { OnOk result ((lanes : List LaneOf) (first : List ℕ) → is_among lane lanes ≡ false →
             OpensLanes header.now lanes self.old first out.old.items →
             OpensLanes header.now (lanes ++ (if has_lines then lane ∷ [] else [])) self.new first out.new.items) }
+        ensures err { OnErr result (Begins out.old.items out.new.items) }
     {
         if !has_lines {
             return Ok(());
@@ -115,8 +118,9 @@ impl LanePasses {
 
     /// Appends the lines of the events that end the passes, in the order in which they began.
     pub(crate) fn end(&self, out: &mut Vec<u8>) -> Result<(), Memory>
-        ensures { OnOk result ((lanes : List LaneOf) → self.now.begun ≡ length lanes →
+        ensures ok { OnOk result ((lanes : List LaneOf) → self.now.begun ≡ length lanes →
             out.new.items ≡ out.old.items ++ event_lines (closing_of page_passes lanes [])) }
+        ensures err { OnErr result (Begins out.old.items out.new.items) }
     {
         for ended in 0..self.begun {
             push_event_line(out, 0, &Step::Join(ended + 1))?;

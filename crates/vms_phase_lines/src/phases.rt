@@ -1,4 +1,5 @@
-ghost use Rattle.std.specs.Prelude.{◌≡◌, ◌∷◌, [], ◌++◌, IfOk, List, OnOk};
+ghost use Rattle.std.specs.Prelude.{◌≡◌, ◌∷◌, [], ◌++◌, IfOk, List, OnErr, OnOk};
+ghost use Rattle.vms_text.specs.Writing.{Begins};
 ghost use Rattle.vms_core.specs.Pages.{History, state_after};
 ghost use Rattle.vms_world.specs.Common.{Header as HeaderOf, IsHeader, Item as ItemOf, State as StateOf, facts_of};
 ghost use Rattle.vms_world.specs.Common.{settled};
@@ -37,8 +38,9 @@ impl PhaseWriter {
     ) -> Result<PhaseWriter, Memory>
         requires header { IsHeader header.now }
         requires fit { FitPages header.now base items.now }
-        ensures { IfOk result (λ writer. (h : History) × IsWriting header.now base items.now [] h writer
+        ensures ok { IfOk result (λ writer. (h : History) × IsWriting header.now base items.now [] h writer
             × (out.new.items ≡ out.old.items ++ (phase_line ++ event_lines h))) }
+        ensures err { OnErr result (Begins out.old.items out.new.items) }
     {
         push_phase_line(out)?;
         let lanes = LanePasses::begin(out, alloc, header, items)?;
@@ -60,10 +62,11 @@ impl PhaseWriter {
         requires header { IsHeader header.now }
         requires writing { (base : StateOf) × (all : List ItemOf) × (items : List ItemOf) × (left : List ItemOf)
             × (h : History) × IsWriting header.now base all items h self.old × (all ≡ items ++ item.now ∷ left) }
-        ensures { OnOk result ((base : StateOf) (all items left : List ItemOf) (h : History) →
+        ensures ok { OnOk result ((base : StateOf) (all items left : List ItemOf) (h : History) →
             IsWriting header.now base all items h self.old → all ≡ items ++ item.now ∷ left → (more : History)
             × IsWriting header.now base all (items ++ item.now ∷ []) (more ++ h) self.new
             × (out.new.items ≡ out.old.items ++ event_lines more)) }
+        ensures err { OnErr result (Begins out.old.items out.new.items) }
     {
         let lane = item.lane.lane();
         let Some(call) = page_call(lane, item.act) else {
@@ -87,11 +90,12 @@ impl PhaseWriter {
     pub fn end(self, out: &mut Vec<u8>) -> Result<State, Memory>
         requires { (header : HeaderOf) × (base : StateOf) × (items : List ItemOf) × (h : History)
             × IsWriting header base items items h self }
-        ensures { IfOk result (λ next. (header : HeaderOf) (base : StateOf) (items : List ItemOf) (h : History) →
+        ensures ok { IfOk result (λ next. (header : HeaderOf) (base : StateOf) (items : List ItemOf) (h : History) →
             IsWriting header base items items h self → (more : History)
             × IsPhaseInOrder header base items (more ++ h)
             × (out.new.items ≡ out.old.items ++ event_lines more)
             × (next ≡ settled (state_after (facts_of header base) (more ++ h)))) }
+        ensures err { OnErr result (Begins out.old.items out.new.items) }
     {
         self.lanes.end(out)?;
         Ok(self.pages.settle())

@@ -10,7 +10,8 @@ use Rattle.vms_stream.specs.declared.statuses.Status.{Status}
 use Rattle.vms_world.specs.Common.{HasWon, Header, Item, State, facts_of, lanes_of, settled}
 
 module _ (header : Header) (base : State) (items : List Item) where
-  -- these page events are legal, and those of the first of these lines, in their order, after each lane's pass has begun
+  -- these page events are legal, and those of the first of these lines, in their order, after each lane's pass has
+  -- begun
   pub record BeginsPhase (h : History) : Type 0 where
     pub made : List Item
     pub left : List Item

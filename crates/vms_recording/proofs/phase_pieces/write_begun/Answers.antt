@@ -32,7 +32,7 @@ returns-in_err-write_above-clause-writes g c s h writing =
     let p = err_from_is_err_and c.from_residual-in_err-write_above.result
     c.from_residual-in_err-write_above.ensures.1 in
     let lines = c.in_ok-write_lines.ensures.writes s h writing in
-    let ended = c.in_ok-pages.ensures c.args.header.now s c.args.items.now (lines.more ++ h) lines.goes.1 in
+    let ended = c.in_ok-pages.ensures.ok c.args.header.now s c.args.items.now (lines.more ++ h) lines.goes.1 in
     rw p.1 (WritesRest-unwritten c.args.header.now s c.args.items.now h c.args.waiting.now.items
     c.write_above.new.waiting.items (g.K.Sink.written c.args.out.now) c.write_lines.new.waiting.items
     (g.K.Sink.written c.write_lines.new.out) c.write_lines.new.phase _ lines c.in_ok-pages.pages
@@ -49,7 +49,7 @@ returns-in_err-write_above-clause-counts g c =
 pub returns-clause-writes : goal.returns-clause-writes
 returns-clause-writes g c s h writing =
     let lines = c.in_ok-write_lines.ensures.writes s h writing in
-    let ended = c.in_ok-pages.ensures c.args.header.now s c.args.items.now (lines.more ++ h) lines.goes.1 in
+    let ended = c.in_ok-pages.ensures.ok c.args.header.now s c.args.items.now (lines.more ++ h) lines.goes.1 in
     WritesRest-whole c.args.header.now s c.args.items.now h c.args.waiting.now.items
     c.write_above.new.waiting.items (g.K.Sink.written c.args.out.now) c.write_lines.new.waiting.items
     (g.K.Sink.written c.write_lines.new.out) c.write_lines.new.phase _ lines c.in_ok-pages.pages

@@ -50,7 +50,7 @@ returns-in_err-write_above-clause-writes g c s h writing =
     let parts = parts-next header s items h waiting held n c.loop-item.phase c.loop-item.waiting.items
     (g.K.Sink.written c.loop-item.out) opened c.item-item.result c.item-item.result
     c.loop-item-test.true c.item-item.is in
-    let on = c.in_ok-write_line.ensures s items (take n items) (drop (n + 1) items) (opened.more ++ h) opened.writing
+    let on = c.in_ok-write_line.ensures.ok s items (take n items) (drop (n + 1) items) (opened.more ++ h) opened.writing
     parts in
     let made = IsOpen-line header s items h waiting held n c.loop-item.phase c.loop-item.waiting.items
     (g.K.Sink.written c.loop-item.out) opened c.item-item.result c.item-item.result
@@ -81,7 +81,7 @@ loop-item-preserved g c = record {
       let parts = parts-next header s items h waiting held n c.loop-item.phase c.loop-item.waiting.items
       (g.K.Sink.written c.loop-item.out) opened c.item-item.result c.item-item.result
       c.loop-item-test.true c.item-item.is in
-      let on = c.in_ok-write_line.ensures s items (take n items) (drop (n + 1) items) (opened.more ++ h) opened.writing
+      let on = c.in_ok-write_line.ensures.ok s items (take n items) (drop (n + 1) items) (opened.more ++ h) opened.writing
       parts in
       let made = IsOpen-line header s items h waiting held n c.loop-item.phase c.loop-item.waiting.items
       (g.K.Sink.written c.loop-item.out) opened c.item-item.result c.item-item.result

@@ -10,11 +10,11 @@ returns-in_err-phase-clause-writes g c =
     c.begin.new.out.items (g.K.Sink.written c.args.out.now) p.0)
 
 pub write_begun-requires-clause-writing : goal.write_begun-requires-clause-writing
-write_begun-requires-clause-writing g c = (c.args.base, c.in_ok-phase.ensures.0, c.in_ok-phase.ensures.1)
+write_begun-requires-clause-writing g c = (c.args.base, c.in_ok-phase.ensures.ok.0, c.in_ok-phase.ensures.ok.1)
 
 pub returns-clause-writes : goal.returns-clause-writes
 returns-clause-writes g c =
     WritesPhase-begun c.args.header.now c.args.base c.args.items.now c.args.waiting.now.items
-    c.write_begun.new.waiting.items (g.K.Sink.written c.args.out.now) c.in_ok-phase.ensures.0 c.begin.new.out.items
-    c.in_ok-phase.ensures.2 (g.K.Sink.written c.write_begun.new.out) c.write_begun.result
-    (c.write_begun.ensures.writes c.args.base c.in_ok-phase.ensures.0 c.in_ok-phase.ensures.1)
+    c.write_begun.new.waiting.items (g.K.Sink.written c.args.out.now) c.in_ok-phase.ensures.ok.0 c.begin.new.out.items
+    c.in_ok-phase.ensures.ok.2 (g.K.Sink.written c.write_begun.new.out) c.write_begun.result
+    (c.write_begun.ensures.writes c.args.base c.in_ok-phase.ensures.ok.0 c.in_ok-phase.ensures.ok.1)

@@ -2,6 +2,8 @@
 use Rattle.std.proofs.Common.{◌≡◌, ◌++◌, ◌<◌, Bool, false, [], ◌∷◌, add-one, ap, arith, get_or, if◌then◌else◌, subst}
 use Rattle.std.proofs.Common.{sym, ℕ, ◌∙◌}
 use Rattle.vms_world.specs.Common.{Control, Cpu, Lane, has_line, lanes_below}
+use Rattle.vms_text.proofs.Common.{Begins-after, OnErr-true}
+use Rattle.vms_rating_lines.proofs.Common.{Begins-self}
 use Rattle.vms_phase_lines.specs.Common.{OpensLanes}
 use Rattle.vms_phase_lines.proofs.LanePlaces.{control-apart, length-below, next-apart}
 use Rattle.vms_phase_lines.proofs.Openings.{OpensLanes-none}
@@ -40,7 +42,7 @@ loop-number-preserved c =
     c.begin_if.new.out.items) (sym (add-one n))
     (subst (λ (b : Bool). OpensLanes c.args.header.now (lanes_below n items ++ (if b then lane ∷ [] else []))
     c.begin_if.new.self c.args.out.now.items c.begin_if.new.out.items) lined
-    (c.in_ok-begin_if.ensures (lanes_below n items) c.args.out.now.items (next-apart n items) c.loop-number.invariant))
+    (c.in_ok-begin_if.ensures.ok (lanes_below n items) c.args.out.now.items (next-apart n items) c.loop-number.invariant))
 
 pub begin_if-requires-2-clause-opens : goal.begin_if-requires-2-clause-opens
 begin_if-requires-2-clause-opens c =
@@ -59,8 +61,8 @@ begin_if-requires-2-clause-opens c =
       c.loop-number.invariant,
     )
 
-pub returns : goal.returns
-returns c =
+pub returns-clause-ok : goal.returns-clause-ok
+returns-clause-ok c =
     let n = c.loop-number.number in
     let items = c.args.items.now in
     let all : n ≡ c.args.header.now.layout.cpus =
@@ -73,5 +75,23 @@ returns c =
     c.args.out.now.items c.begin_if-2.new.out.items) all
     (subst (λ (b : Bool). OpensLanes c.args.header.now (lanes_below n items ++ (if b then Control ∷ [] else []))
     c.begin_if-2.new.self c.args.out.now.items c.begin_if-2.new.out.items) lined
-    (c.in_ok-begin_if-2.ensures (lanes_below n items) c.args.out.now.items (control-apart n items)
+    (c.in_ok-begin_if-2.ensures.ok (lanes_below n items) c.args.out.now.items (control-apart n items)
     c.loop-number.invariant))
+
+pub returns-in_err-lined-clause-err : goal.returns-in_err-lined-clause-err
+returns-in_err-lined-clause-err c =
+    OnErr-true c.from_residual.result _ (Begins-self c.args.out.now.items)
+
+pub returns-in_err-lanes-clause-err : goal.returns-in_err-lanes-clause-err
+returns-in_err-lanes-clause-err c =
+    OnErr-true c.from_residual-in_err-lanes.result _ (Begins-self c.args.out.now.items)
+
+pub returns-in_err-begin_if-clause-err : goal.returns-in_err-begin_if-clause-err
+returns-in_err-begin_if-clause-err c =
+    OnErr-true c.from_residual-in_err-begin_if.result _
+    (Begins-after _ _ _ _ c.loop-number.invariant.lines c.in_err-begin_if.ensures.err)
+
+pub returns-in_err-begin_if-2-clause-err : goal.returns-in_err-begin_if-2-clause-err
+returns-in_err-begin_if-2-clause-err c =
+    OnErr-true c.from_residual-in_err-begin_if-2.result _
+    (Begins-after _ _ _ _ c.loop-number.invariant.lines c.in_err-begin_if-2.ensures.err)

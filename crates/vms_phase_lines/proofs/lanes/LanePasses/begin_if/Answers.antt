@@ -5,8 +5,8 @@ use Rattle.vms_phase_lines.specs.Common.{slot_of}
 use Rattle.vms_phase_lines.proofs.Openings.{OpensLanes-more}
 use Rattle.vms_phase_lines.proofs.lanes.LanePasses.begin_if.Goals as goal
 
-pub returns : goal.returns
-returns c = rw c.if-not-has_lines.false (λ lanes first apart opens.
+pub returns-clause-ok : goal.returns-clause-ok
+returns-clause-ok c = rw c.if-not-has_lines.false (λ lanes first apart opens.
     OpensLanes-more c.args.header.now lanes c.args.self.now first c.args.out.now.items opens c.args.lane c.requires.lane
     apart c.owner_of.result c.owner_of.ensures (c.args.self.now.begun + 1) refl c.set.new.self
     (c.set.ensures ∙ ap (λ (k : ℕ). set c.args.self.now.passes k (c.args.self.now.begun + 1))

@@ -1,6 +1,6 @@
 -- The page counters are those that the boundary line makes.
 use Rattle.std.proofs.Common.{refl, subst, sym}
-use Rattle.vms_walks.specs.Rules.{ByFormula}
+use Rattle.vms_walks.specs.Rules.{IsExactly}
 use Rattle.vms_world.specs.Common.{State, normal_threshold_of}
 use Rattle.vms_written.specs.Common.{CrossesPages}
 use Rattle.vms_written_states.specs.PageStarts.{IsPageStart}
@@ -25,7 +25,7 @@ returns c segments hs start s written number is known allowed =
       c.cross.new.pages,
       record {
         recorded = c.recorded_histories_go_on.ensures.boundary header segments hs start s c.cross.new.pages number b
-            is.recorded known allowed (subst (λ (t : State). CrossesPages header (ByFormula normal_threshold_of) b t
+            is.recorded known allowed (subst (λ (t : State). CrossesPages header (IsExactly normal_threshold_of) b t
             c.cross.new.pages) same c.cross.ensures);
         pages = refl;
         lines = is.lines;
