@@ -454,10 +454,14 @@ class Trials:
         """A pipe that nobody reads takes 4096 bytes, and refuses the next ones at once."""
         for call in (call for call in self.longs if len(call.answer[1]) > 4096):
             ours, theirs = os.pipe2(os.O_NONBLOCK)
-            with os.fdopen(ours, "rb", 0) as source:
+            with os.fdopen(ours, "rb", 0) as source, tempfile.TemporaryFile() as trace:
+                # From a file a read brings 64 KiB, and what is written of these is more than the pipe takes: of less it
+                # would take all or nothing.
+                trace.write(call.text)
+                trace.seek(0)
                 with os.fdopen(theirs, "wb", 0) as pipe:
                     fcntl.fcntl(pipe, fcntl.F_SETPIPE_SZ, 4096)
-                    done = subprocess.run(call.words, input=call.text, stdout=pipe, timeout=60)
+                    done = subprocess.run(call.words, stdin=trace, stdout=pipe, timeout=60)
                 expect(f"{call} and a pipe that refuses", (done.returncode, source.read(1 << 20)),
                        (WRITE, call.answer[1][:4096]))
 

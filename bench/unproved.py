@@ -10,8 +10,8 @@ takes some three minutes.
 
 Its counts are near those of the proved program, and not the same, as LLVM inlines other calls. By valgrind `certify`
 took 2,546 instructions an event where the proved program took 2,557, and 1,559 where it took 1,635; `check` 798 a line
-where it took 788, and 720 where it took 711; `replay` 920 where it took 938, and 903 where it took 934. So compare such
-programs with one another, and count the proved one in the end.
+where it took 788, and 720 where it took 711; `replay` 920 where it took 938, 903 where it took 934, and 895 where it
+took 914. So compare such programs with one another, and count the proved one in the end.
 
 Nothing of OUT is proved, and it must not be used for anything else: it goes on where `rt try` would have stopped.
 Needed are Linux and a Rattle kit whose `rt try` leaves its module for a moment, as 13b does.
