@@ -4,7 +4,8 @@
 Of names there are three forms, each in code spans:
 
   `CRATE::FUNCTION` or `CRATE::NAME::FUNCTION`, (`CLAUSE`, ..)   a function, of the type or trait NAME, with clauses
-  `CRATE/specs/FILE.antt` (`WORD`, ..)                           a file, with what it defines
+  `CRATE/specs/FILE.antt` (`WORD`, ..)                           a file, with what it defines; a folder of edits is
+                                                                 `edits/CRATE/`, or `must-fail/` of a crate
   `WORD`, .. of `HOME`                                           what a file or a crate defines
 
 A function in the first form is cited for its contract. Where that has several clauses, those that carry the sentence
@@ -33,7 +34,8 @@ import sys
 SPAN = re.compile(r"`([^`]+)`")
 CLAUSES = r"(?:\s+\(((?:`[^`\s]+`(?:,\s+|\s+and\s+)?)+)\))?"
 FUNCTION_NAMED = re.compile(r"`((?:\w+::)+\w+|\w+)`" + CLAUSES)
-FILE_NAMED = re.compile(r"`((?:(?:vms_\w+|vozhkell)/)?(?:src|specs|proofs|must-fail)/[\w/.-]+)`" + CLAUSES)
+FILE_NAMED = re.compile(r"`((?:(?:vms_\w+|vozhkell)/)?(?:src|specs|proofs|must-fail)/[\w/.-]*|"
+                        r"edits/(?:vms_\w+|vozhkell)/[\w/.-]*)`" + CLAUSES)
 OF_HOME = re.compile(r"((?:`[^`\s]+`(?:,\s+|,?\s+and\s+|\s+))+)of\s+`([^`\s]+)`")
 CRATE = re.compile(r"vms_\w+|vozhkell")
 OTHERS = re.compile(r"(?:vms_\w+|vozhkell)::")
@@ -149,7 +151,7 @@ class Reader:
             return pathlib.Path("crates", named)
         if self.own and re.match(r"(src|specs|proofs|must-fail)/", named):
             return pathlib.Path("crates", self.own, named)
-        if re.match(r"(\.ci|bench|crates|docs|examples|tools)/", named):
+        if re.match(r"(\.ci|bench|crates|docs|edits|examples|tools)/", named):
             return pathlib.Path(named)
         return None
 

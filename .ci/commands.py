@@ -1,5 +1,6 @@
 #!/usr/bin/env python3
-"""Runs the commands that the documents show, as a reader would: commands.py [DOCUMENT..]. With no words it takes all.
+"""Runs the commands that the documents show, as a reader would: commands.py [--plain PROGRAM] [DOCUMENT..]. With no
+document it takes all.
 
 A block ``` sh ``` is a command for bash. It ends with status 0 where the block after it isn't ``` output STATUS ```,
 what it writes to standard output (a line `...` stands for any lines). The commands of a document run in turn in a copy
@@ -9,6 +10,9 @@ A block ``` sh not run: REASON ``` isn't run, and ``` sh reads FILE ``` only whe
 are looked up, as are those within a sentence or a table: a script is there and has the flags in its text, and the help
 of `rt` names the words that come after it. Any other block of code with a line that begins as a command is refused, but
 within a list.
+
+With --plain the commands are those of a reader without the Rattle kit: `./vozhkell` is `out/vozhkell`, which is this
+program, `tools/page.py` is told so by `--program`, and a command that calls `rt` is only looked up.
 """
 import os
 import re
@@ -27,8 +31,11 @@ DOCUMENTS = ["README.md", "docs/*.md", "crates/*/README.md", "tools/samples/READ
 PROGRAM = Path("crates", "vozhkell", "out", "vozhkell")
 FENCED = re.compile(r"^```([^\n]*)\n(.*?)^```$", re.M | re.S)
 INLINE = re.compile(r"`([^`\n]+(?:\n[^`\n]+)?)`")
-SCRIPT = r"(?:\./|\.ci/|bench/|tools/)"
+SCRIPT = r"(?:\./|\.ci/|bench/|dist/|tools/)"
 BEGINS = re.compile(rf"(?:\(?cd |sudo |python3 |rt [a-z]|[A-Z]+=\S+ |mkdir |valgrind |{SCRIPT}\S)")
+PLAIN = Path("out", "vozhkell")
+CALLS_PROVED = re.compile(r"(?<![\w./])\./vozhkell\b")
+CALLS_RT = re.compile(r"(?<![\w./])rt [a-z]")
 LIMIT = 600
 
 
@@ -81,15 +88,21 @@ def run(command, folder):
     return ended.returncode, ended.stdout.decode(errors="replace"), ended.stderr.decode(errors="replace")
 
 
-def copy_tree(to):
-    """The tree as a new checkout has it, and the program that was built of it."""
+def on_plain(command):
+    """The command of a reader who has the plain program."""
+    return CALLS_PROVED.sub(str(PLAIN), command).replace("tools/page.py ", f"tools/page.py --program {PLAIN} ")
+
+
+def copy_tree(to, plain):
+    """The tree as a new checkout has it, and the program that was built of it, or the plain one."""
     shutil.copytree(TOP, to, ignore=shutil.ignore_patterns(".git", "out", "target", "__pycache__"))
-    if (TOP / PROGRAM).exists():
-        (to / PROGRAM).parent.mkdir()
-        shutil.copy2(TOP / PROGRAM, to / PROGRAM)
+    built, stands = (Path(plain), to / PLAIN) if plain else (TOP / PROGRAM, to / PROGRAM)
+    if built.exists():
+        stands.parent.mkdir()
+        shutil.copy2(built, stands)
 
 
-def check_block(info, command, after, folder, lookup):
+def check_block(info, command, after, folder, lookup, plain):
     """What is wrong with a block of commands, and whether it was run."""
     how = info.removeprefix("sh").strip()
     file = re.fullmatch(r"reads (\S+)", how)
@@ -97,7 +110,9 @@ def check_block(info, command, after, folder, lookup):
         return [f"its first line says {info!r}"], False
     if how and not (file and os.access(file[1], os.R_OK)):
         return list(lookup.missing(command)), False
-    status, text, errors = run(command, folder)
+    if plain and CALLS_RT.search(command):
+        return list(lookup.missing(command)), False
+    status, text, errors = run(on_plain(command) if plain else command, folder)
     words, wanted = after[0].split(), after[1]
     if words[:1] != ["output"]:
         return ([] if status == 0 else [f"status {status}\n{text}{errors}"]), True
@@ -105,7 +120,7 @@ def check_block(info, command, after, folder, lookup):
     return ([] if (status, found) == (int(words[1]), wanted) else [f"status {status}\n{found}{errors}"]), True
 
 
-def check(name):
+def check(name, plain=None):
     """What is wrong with a document, how many of its commands were run, and how many were looked up."""
     text = (TOP / name).read_text(encoding="utf-8")
     wrong, ran, looked_up, lookup = [], 0, 0, Lookup()
@@ -113,10 +128,10 @@ def check(name):
     with tempfile.TemporaryDirectory() as room:
         folder = Path(room, "tree")
         if any(info.split()[:1] == ["sh"] for info, _ in blocks):
-            copy_tree(folder)
+            copy_tree(folder, plain)
         for (info, command), after in zip(blocks, [*blocks[1:], ("", "")]):
             if info.split()[:1] == ["sh"]:
-                found, was_run = check_block(info, command, after, folder, lookup)
+                found, was_run = check_block(info, command, after, folder, lookup, plain)
                 wrong += [f"{command}{it}" for it in found]
                 ran, looked_up = ran + was_run, looked_up + (not was_run)
             elif not info.startswith("output"):
@@ -133,11 +148,15 @@ def check(name):
 
 
 def main(names):
+    plain = None
+    if names[:1] == ["--plain"]:
+        plain, names = names[1], names[2:]
     names = names or [str(file.relative_to(TOP)) for pattern in DOCUMENTS for file in sorted(TOP.glob(pattern))]
-    # builds the program where it isn't there, which takes long
-    subprocess.run([TOP / "vozhkell", "usage"], stdin=subprocess.DEVNULL, capture_output=True)
+    if not plain:
+        # builds the program where it isn't there, which takes long
+        subprocess.run([TOP / "vozhkell", "usage"], stdin=subprocess.DEVNULL, capture_output=True)
     with ThreadPoolExecutor() as pool:
-        checks = list(pool.map(check, names))
+        checks = list(pool.map(lambda name: check(name, plain), names))
     for name, (wrong, _, _) in zip(names, checks):
         for what in wrong:
             print(f"{name}: {what.rstrip()}")

@@ -55,7 +55,7 @@ LEAVES = [
      r"vms_event_core/Calls|vms_pcpu_core/(Calls|PcpuCalls|Readings|Summing|Limits|OwnSteps|MadeBetween)|"
      r"vms_group_core/Calls"),
     ("What an answer means", "How far the true number was from each answer and from each number of a report, at a named "
-     "moment.", r"vms_truth/|vms_drift/"),
+     "moment.", r"vms_truth/|vms_drift/|vms_near/|vms_percpu_near/"),
     ("Laws", "What holds at every moment of a legal history: totals, drift, volumes, marks, thresholds and limits.",
      r"vms_core/(Laws|PeakLaws|Drift|Bounded|Taken|MarkNumbers|Knowledge|Spending)|"
      r"vms_(event|pcpu|group)_core/(Laws|Knowledge)"),

@@ -2,14 +2,17 @@
 """Loads the page of each trace in a browser: pages.py PROGRAM TRACE.., with the path of the built program.
 
 Read back is what a reader sees. The page opens at the worst moment: its heading, its line and its numbers there have to
-be those of the program, which answers `val`, `snap` and a report of totals for the trace up to that line. So have all
-plain values and snapshots of the page's tables, against `val` and `snap` lines that tools/probe.py puts into the trace,
-and what the trace's own lines answer. At 400 pixels no text is lower than 11 pixels, none lies on another one, nothing
-lies over a chart, and the page is no wider. Of the first trace, keys, pointer and taps have to choose the lines that
-they are for, and texts have to stand out in light and in dark colours. Whatever a page says to the console fails. Where
-no Chromium is installed, the pages are made and not loaded."""
+be those of the program, which answers `val`, `snap` and a report of totals for the trace up to that line. Where nothing
+is off it opens at the first answer, and shows them all. So have all plain values and snapshots of the page's tables,
+against `val` and `snap` lines that tools/probe.py puts into the trace, and what the trace's own lines answer. The lanes
+have the focus, lines that race are said to be in the order of the file, and of other counters the charts are open that
+are off by a tenth of the furthest or more, six at most. At 400 pixels no text is lower than 11 pixels, none lies on
+another one, nothing lies over a chart, and the page is no wider. Of the first trace, keys, pointer and taps have to
+choose the lines that they are for, and texts have to stand out in light and in dark colours. Whatever a page says to
+the console fails. Where no Chromium is installed, the pages are made and not loaded."""
 import html
 import json
+import os
 import pathlib
 import re
 import shutil
@@ -24,12 +27,19 @@ import vmtrace  # noqa: E402
 
 BROWSERS = ("chromium", "chromium-browser", "google-chrome")
 NARROW, WINDOW, LIGHT, DARK = 400, "1200,900", "1", "0"
+# The pages ask nothing of other machines, and the browser is to ask nothing for itself.
+OFFLINE = ("--disable-background-networking", "--disable-component-update", "--disable-sync", "--no-first-run",
+           "--no-default-browser-check", "--host-resolver-rules=MAP * ~NOTFOUND")
+# As root Chromium refuses to start with its sandbox, so root alone goes without.
+SANDBOX = () if os.geteuid() else ("--no-sandbox",)
 # A browser's own window is wider than a phone, so a narrow page stands in a frame, out of which its trial is copied.
 FRAME = """<!DOCTYPE html><iframe style="width: {width}px; height: 880px; border: 0" srcdoc="{page}"></iframe>
 <pre id="read"></pre><script>onload = () => {{
   const inside = document.querySelector("iframe").contentDocument;
   document.getElementById("read").textContent = inside.getElementById("tried").textContent; }};</script>"""
 READING = re.compile(r"line (\d+): (value|snapshot) (\d+)$")
+ANSWER = re.compile(r"line (\d+): (?!report |refused: )(.*)$")
+MOST_OPEN = 6
 ANSWERED = {"val": ("plain value", "value"), "snap": ("snapshot", "snapshot"), "rough": ("count", "count"),
             "sum": ("true total", "sum"), "evsum": ("sum over the online CPUs", "events")}
 # What stands below a page that is tried. It writes what the page shows when it opens, its tables, what is wrong with
@@ -39,12 +49,18 @@ TRIAL = """<pre id="tried"></pre><script>{
 const seen = (name) => document.querySelector(name).textContent;
 const slider = document.getElementById("picture"), told = () => Number(slider.getAttribute("aria-valuenow"));
 const terms = [...document.querySelectorAll("dt")].map((term) => [term.textContent, term.nextSibling.textContent]);
-const opened = { heading: seen("h1"), line: told(), terms };
+const cells = (rows) => [...rows].map((row) => [...row.children].map((cell) => cell.textContent));
+const opened = { heading: seen("h1"), line: told(), terms, focus: document.activeElement.id,
+  text: document.body.innerText, answers: cells(document.querySelectorAll("#answers tbody tr")),
+  shown: [...document.querySelectorAll("#others .numbers")].map((numbers) => numbers.dataset.name) };
 
+for (const folded of document.querySelectorAll(".counter")) {
+  folded.open = true;
+  folded.dispatchEvent(new Event("toggle")); }
 const tables = [...document.querySelectorAll(".numbers")].map((details) => {
   details.open = true;
   details.dispatchEvent(new Event("toggle"));
-  return [...details.querySelectorAll("tr")].map((row) => [...row.children].map((cell) => cell.textContent)); });
+  return [details.dataset.name, cells(details.querySelectorAll("tr"))]; });
 
 const faults = [], texts = [...document.body.querySelectorAll("*")].filter((element) => element.id !== "tried"
   && !element.matches("script, style")
@@ -112,11 +128,14 @@ def made(program, trace, to):
 
 
 def loaded(browser, file, scheme, anchor=""):
-    """What is tried on the page, once it is loaded, where light or where dark colours are preferred."""
-    status, dom, errors = run(browser, "--headless=new", "--no-sandbox", "--disable-gpu",
-                              f"--user-data-dir={file.with_name('home')}", "--enable-logging=stderr",
-                              f"--window-size={WINDOW}", f"--blink-settings=preferredColorScheme={scheme}",
-                              "--dump-dom", file.as_uri() + anchor)
+    """What is tried on the page, once it is loaded, where light or where dark colours are preferred.
+
+    The browser has a profile of its own.
+    """
+    home = tempfile.mkdtemp(prefix="profile", dir=file.parent)
+    status, dom, errors = run(browser, "--headless=new", "--disable-gpu", *OFFLINE, *SANDBOX,
+                              f"--user-data-dir={home}", "--enable-logging=stderr", f"--window-size={WINDOW}",
+                              f"--blink-settings=preferredColorScheme={scheme}", "--dump-dom", file.as_uri() + anchor)
     said = [line for line in errors.splitlines() if "CONSOLE" in line]
     found = re.search(r'<pre id="(?:tried|read)">({.+?})</pre>', dom, re.S)
     if status or said or not found:
@@ -176,6 +195,7 @@ def check_worst(program, trace, figure, rows, opened):
         expect(f"{trace}: {name} of line {line}", terms[name].lstrip("\u00b1").split(", ")[0], row_at(rows, line)[name])
     if not most:
         expect(f"{trace}: heading", opened["heading"][:9], "Never off")
+        check_answers(program, trace, opened)
         return
     expect(f"{trace}: the first line", line, min(at for at, off in offs.items() if abs(off) == most))
     says = re.match(r"Off by ([\d,]+).*? at lines? (\d+)", opened["heading"])
@@ -184,6 +204,38 @@ def check_worst(program, trace, figure, rows, opened):
         value, total = told_below(program, trace, line, figure["name"])
         shown = number(terms["plain value"]), number(terms["true total"])
         expect(f"{trace}: plain value and true total of line {line}", shown, (value, total))
+
+
+def check_answers(program, trace, opened):
+    """A page of a trace in which nothing is off opens at the first answer of the program, and shows them all."""
+    _, output, _ = run(program, "replay", text="\n".join([*vmtrace.lines_of(trace), ""]))
+    found = [ANSWER.match(line) for line in output.splitlines()]
+    answers = [[f"{int(one[1]):,}", one[2]] for one in found if one]
+    expect(f"{trace}: answers", [[row[0], row[2]] for row in opened["answers"]], answers)
+    if answers:
+        expect(f"{trace}: the first line", f"{opened['line']:,}", answers[0][0])
+
+
+def check_order(trace, data, opened):
+    """Where lines of several lanes stand in a phase, the page says in which order they come; else it doesn't."""
+    racing, lanes = False, {}
+    for line, row, _, answer in data["lines"]:
+        if row == page.BETWEEN and not answer.startswith("refused"):
+            lanes = {}
+        elif not answer.startswith("refused"):
+            lanes[row] = line
+            racing |= len(lanes) > 1
+    expect(f"{trace}: the order is told", "in the order of the file" in opened["text"], racing)
+
+
+def check_shown(trace, figures, opened):
+    """Which charts of other counters are open at first."""
+    furthest = {}
+    for figure in figures:
+        furthest[figure["law"]] = max(furthest.get(figure["law"], 0), abs(figure["worst"]["off"]))
+    large = [figure["name"] for figure in figures[1:]
+             if abs(figure["worst"]["off"]) > max(1, furthest[figure["law"]] / 10)]
+    expect(f"{trace}: open charts", opened["shown"], large[:MOST_OPEN])
 
 
 def check_numbers(program, trace, figures, tables, lines):
@@ -231,7 +283,7 @@ def contrast(*colours):
 
 def try_page(browser, file, data, narrow):
     """Keys, pointer and taps, and colours where light and where dark ones are preferred."""
-    worst, shown = data["figures"][0]["worst"]["from"], data["lines"]
+    worst, shown = data["opens"], data["lines"]
     by_row = [line[0] for row in data["rows"] for line in shown if line[1] == row]
     wide = loaded(browser, file, DARK, f"#line={by_row[-1]}")
     expect(f"{file.name}: the line that the address names", wide["opened"]["line"], by_row[-1])
@@ -253,8 +305,12 @@ def check(browser, program, trace, folder, is_first):
         return
     tried = loaded(browser, narrow_of(file), LIGHT)
     expect(f"{trace}: width and faults", (tried["width"], tried["faults"]), (NARROW, []))
-    tables = [rows_of(table) for table in tried["tables"]]
-    expect(f"{trace}: counters", len(tables), len(data["figures"]))
+    expect(f"{trace}: the focus", tried["opened"]["focus"], "picture")
+    check_order(trace, data, tried["opened"])
+    check_shown(trace, data["figures"], tried["opened"])
+    tables = {name: rows_of(table) for name, table in tried["tables"]}
+    expect(f"{trace}: counters", sorted(tables), sorted(figure["name"] for figure in data["figures"]))
+    tables = [tables[figure["name"]] for figure in data["figures"]]
     check_worst(program, trace, data["figures"][0], tables[0], tried["opened"])
     compared = check_numbers(program, trace, data["figures"], tables, data["lines"])
     if not compared:

@@ -1,4 +1,4 @@
-//! Words that threads share without sharing lines of the cache, for the plain programs.
+//! Words that threads share without sharing lines of the cache, for the plain program.
 
 use std::ops::Deref;
 

@@ -1,4 +1,4 @@
-//! The one spelling of headers and lines, for the plain programs that write traces.
+//! The one spelling of headers and lines, for the plain commands that write traces.
 
 use crate::commands::Text;
 use crate::names::EVENTS;

@@ -1,28 +1,15 @@
 //! The job of `vozhkell certify` in plain Rust, written by hand: it reads a trace and a history written after it, and
-//! says whether the history is one of that trace, or the first line at fault and its cause.
-//!
-//! It writes what the proved program writes, but for the usage line, which has its own word alone, and ends with its
-//! statuses: 0, 1 for other words, 2 for a refused header, 3 where a line of the trace was refused, 4 for a failed read
-//! and 5 for a failed write, 7 past a limit, and 9 where the history isn't one of the trace.
+//! says whether the history is one of that trace, or the first line at fault and its cause. It tells on standard error
+//! which line was due there.
 
-mod commands;
-mod counters;
-mod events;
-mod names;
-mod pages;
-mod passes;
-mod script;
-mod trace;
-
-use commands::{Failure, Input, Judge, Output, Tally};
-use counters::Limits;
-use events::{HistoryLine, Step, begins_history, history_line};
-use pages::{Pages, phases_of};
-use passes::Passes;
-use script::LaneScript;
+use crate::commands::{Failure, Input, Judge, Output, Tally};
+use crate::counters::Limits;
+use crate::events::{HistoryLine, Step, begins_history, event_line, history_line};
+use crate::pages::{Pages, phases_of};
+use crate::passes::Passes;
+use crate::script::LaneScript;
+use crate::trace::{Header, Lane, Line};
 use std::io::Write;
-use std::process::ExitCode;
-use trace::{Header, Lane, Line};
 
 const NOT_CERTIFIED: u8 = 9;
 
@@ -116,9 +103,36 @@ impl<'a> Checker<'a> {
         }
         Ok(())
     }
+
+    /// The line that would have to stand where one is at fault, or where the input ends if there is none.
+    fn due(&self, line: Option<&[u8]>) -> String {
+        let caller = match line.map(|line| history_line(self.header, line)) {
+            Some(HistoryLine::Event(caller, _)) => self.passes.slot(caller),
+            _ => None,
+        };
+        let is_open = |slot: &usize| self.lanes[*slot].as_ref().is_some_and(|lane| !lane.ended);
+        match caller.or_else(|| (0..self.lanes.len()).find(is_open)) {
+            Some(slot) => self.due_of(slot),
+            None if self.left.is_empty() => "nothing".to_string(),
+            None => "phase".to_string(),
+        }
+    }
+
+    /// The event that is due of the lane of a slot.
+    fn due_of(&self, slot: usize) -> String {
+        let (pass, lane) = (self.passes.number(slot), self.lanes[slot].as_ref());
+        match lane.and_then(|lane| lane.due_step(&self.passes.pages)) {
+            _ if pass == 0 => {
+                let cpu = (slot < self.header.cpus).then_some(slot);
+                event_line(0, &Step::Split { pass: self.passes.begun + 1, cpu })
+            }
+            Some(step) => event_line(pass, &step),
+            None => event_line(0, &Step::Join { pass }),
+        }
+    }
 }
 
-fn certify(input: &mut Input, out: &mut Output) -> Result<u8, Failure> {
+pub fn certify(input: &mut Input, out: &mut Output) -> Result<u8, Failure> {
     let header = input.header()?;
     let (mut judge, mut tally, mut kept) = (Judge::new(&header), Tally::default(), Vec::new());
     let mut has_history = false;
@@ -136,16 +150,24 @@ fn certify(input: &mut Input, out: &mut Output) -> Result<u8, Failure> {
     let mut fault = None;
     while fault.is_none() && has_history {
         match input.next()? {
-            Some(line) => fault = checker.step(line).err().map(|cause| (input.number(), cause)),
+            Some(line) => {
+                if let Err(cause) = checker.step(line) {
+                    let due = checker.due(Some(line));
+                    fault = Some((input.number(), cause, due));
+                }
+            }
             None => break,
         }
     }
-    if fault.is_none() && !(has_history && checker.is_complete()) {
-        fault = Some((input.number() + 1, "Incomplete"));
+    if fault.is_none() && !has_history {
+        fault = Some((input.number() + 1, "Incomplete", "history 1".to_string()));
+    } else if fault.is_none() && !checker.is_complete() {
+        fault = Some((input.number() + 1, "Incomplete", checker.due(None)));
     }
     match fault {
-        Some((line, cause)) => {
+        Some((line, cause, due)) => {
             writeln!(out.held, "line {line}: {cause}")?;
+            out.note = format!("due: {due}\n");
             Ok(NOT_CERTIFIED)
         }
         None => {
@@ -153,8 +175,4 @@ fn certify(input: &mut Input, out: &mut Output) -> Result<u8, Failure> {
             Ok(tally.status())
         }
     }
-}
-
-fn main() -> ExitCode {
-    commands::run("certify", certify)
 }

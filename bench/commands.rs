@@ -1,13 +1,10 @@
-//! What the commands on a trace do alike, for the plain programs: they read the lines, judge which of them count, keep
+//! What the commands on a trace do alike, for the plain program: they read the lines, judge which of them count, keep
 //! to the limits, and end with a status.
-
-// Each program uses a part of it.
-#![allow(dead_code)]
 
 use crate::names::EVENTS;
 use crate::trace::{Act, Cause, Header, Lane, Line, head_line};
 use std::fs::File;
-use std::io::{self, BufRead, BufReader, Read, StdinLock, Take, Write};
+use std::io::{self, BufRead, BufReader, Read, Take, Write};
 use std::os::fd::AsFd;
 use std::process::ExitCode;
 
@@ -187,17 +184,18 @@ impl Judge {
     }
 }
 
-/// The lines of standard input, each read into one buffer.
+/// The lines of an input, each read into one buffer.
 pub struct Input {
-    source: BufReader<Take<StdinLock<'static>>>,
+    source: BufReader<Take<Box<dyn Read>>>,
     line: Vec<u8>,
     bytes: u64,
     number: u64,
 }
 
 impl Input {
-    fn make() -> Input {
-        let source = io::stdin().lock().take(MOST_BYTES + 1);
+    pub fn of(source: impl Read + 'static) -> Input {
+        let source: Box<dyn Read> = Box::new(source);
+        let source = source.take(MOST_BYTES + 1);
         Input { source: BufReader::with_capacity(BUFFER, source), line: Vec::new(), bytes: 0, number: 0 }
     }
 
@@ -355,12 +353,14 @@ impl Write for Text {
 pub struct Output {
     sink: File,
     pub held: Text,
+    /// What is written to standard error at last, if no write failed.
+    pub note: String,
 }
 
 impl Output {
     fn make() -> io::Result<Output> {
         let sink = File::from(io::stdout().as_fd().try_clone_to_owned()?);
-        Ok(Output { sink, held: Text(Vec::with_capacity(2 * BUFFER)) })
+        Ok(Output { sink, held: Text(Vec::with_capacity(2 * BUFFER)), note: String::new() })
     }
 
     /// Writes what is held, if it is much.
@@ -377,27 +377,30 @@ impl Output {
     }
 }
 
-/// Runs a command over standard input and standard output if its word alone was given.
-pub fn run(word: &str, command: impl FnOnce(&mut Input, &mut Output) -> Result<u8, Failure>) -> ExitCode {
+/// A command: what it makes of its input, and the status if nothing failed.
+pub type Command = fn(&mut Input, &mut Output) -> Result<u8, Failure>;
+
+/// Runs a command over its input and standard output, or shows the usage where the words name no command.
+pub fn run(asked: Option<(Command, Input)>, usage: &str) -> ExitCode {
     let status = Output::make().and_then(|mut out| {
-        let status = answer(word, command, &mut out)?;
+        let status = match asked {
+            Some((command, mut input)) => answer(command, &mut input, &mut out)?,
+            None => {
+                out.held.text(usage.as_bytes());
+                1
+            }
+        };
         out.hand_on()?;
+        // It is no part of the output, so a failure is ignored.
+        let _ = io::stderr().write_all(out.note.as_bytes());
         Ok(status)
     });
     ExitCode::from(status.unwrap_or(5))
 }
 
 /// The status, unless a write failed.
-fn answer(
-    word: &str,
-    command: impl FnOnce(&mut Input, &mut Output) -> Result<u8, Failure>,
-    out: &mut Output,
-) -> io::Result<u8> {
-    if std::env::args_os().skip(1).ne([word]) {
-        writeln!(out.held, "usage: {word}")?;
-        return Ok(1);
-    }
-    Ok(match command(&mut Input::make(), out) {
+fn answer(command: Command, input: &mut Input, out: &mut Output) -> io::Result<u8> {
+    Ok(match command(input, out) {
         Ok(status) => status,
         Err(Failure::Header(line, cause)) => {
             writeln!(out.held, "line {line}: {cause}")?;

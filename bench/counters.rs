@@ -1,8 +1,5 @@
-//! What the plain programs do alike on counters: the formulas of thresholds, marks and reserves, and the calls that go
+//! What the plain commands do alike on counters: the formulas of thresholds, marks and reserves, and the calls that go
 //! by the same rules whether one thread has the counters (world.rs) or several share them (shared.rs).
-
-// Each program uses a part of it.
-#![allow(dead_code)]
 
 use crate::trace::{Header, Zone};
 use std::cmp::Ordering;

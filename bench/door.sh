@@ -10,7 +10,7 @@
 # are Linux, bash, python3, rustc, a C compiler with pthreads, the Rattle kit for the heap that the library takes, and the
 # proved program, as bench/run.sh says. Times vary with what else the machine does, so the load average is printed too.
 set -u
-top=$(cd "$(dirname "${BASH_SOURCE[0]}")/.." && pwd) || exit 2
+top=$(CDPATH= cd -- "$(dirname "${BASH_SOURCE[0]}")/.." && pwd) || exit 2
 calls=${1:-2000000}
 runs=${2:-7}
 work=$(mktemp -d) || exit 2
@@ -27,7 +27,7 @@ kit_heap() {
 library=${VOZHKELL_C:-}
 if [ -z "$library" ]; then
     library=$top/crates/vozhkell_c/out/libvozhkell_c.a
-    (cd "$top/crates/vozhkell_c" && rt lib >"$work/said" 2>&1) || { cat "$work/said" >&2; exit 2; }
+    (CDPATH= cd -- "$top/crates/vozhkell_c" && rt lib >"$work/said" 2>&1) || { cat "$work/said" >&2; exit 2; }
 fi
 flags=(-std=c11 -O3 -march=x86-64-v2 -falign-loops=32 -Wall -Wextra -Werror -pthread -I "$top/crates/vozhkell_c")
 "${CC:-cc}" "${flags[@]}" "$top/bench/door.c" "$library" "$(kit_heap)" -o "$work/door" || exit 2

@@ -1,4 +1,5 @@
-//! The lines of a written history, for the plain program that judges one: `phase`, and events.
+//! The lines of a written history, for the plain judge of one: `phase`, and events, as they are read and as
+//! they are written.
 
 use crate::trace::{Cut, Header, MOST_LINE, amount, unsigned};
 
@@ -162,4 +163,33 @@ impl<'a> Words<'a> {
             _ => return None,
         })
     }
+}
+
+/// The line of an event.
+pub fn event_line(caller: u64, step: &Step) -> String {
+    let listed = |list: &WideList| list.map(|entry| entry.to_string()).join(" ");
+    let or_none = |number: Option<u64>| number.map_or("-".to_string(), |number| number.to_string());
+    let words = match *step {
+        Step::LoadT { place, threshold, sets } => format!("LoadT {place} {threshold} {sets}"),
+        Step::LoadD { cpu, group, ref list } => format!("LoadD {cpu} {group} {}", listed(list)),
+        Step::Put { counter, ref list, threshold, delta, mode } => {
+            format!("Put {counter} {} {threshold} {delta} {mode}", listed(list))
+        }
+        Step::Miss { group, ref list } => format!("Miss {group} {}", listed(list)),
+        Step::AddG { counter, pages } => format!("AddG {counter} {pages}"),
+        Step::AddS { item, pages } => format!("AddS {item} {pages}"),
+        Step::Take { cpu, group, ref list } => format!("Take {cpu} {group} {}", listed(list)),
+        Step::LoadG { counter, value } => format!("LoadG {counter} {value}"),
+        Step::LoadS { item, value } => format!("LoadS {item} {value}"),
+        Step::LoadM { place, mark, sets } => format!("LoadM {place} {mark} {sets}"),
+        Step::LoadO { cpu, state } => format!("LoadO {cpu} {state}"),
+        Step::SetT { cpu, place, threshold } => format!("SetT {cpu} {place} {threshold}"),
+        Step::SetM { place, mark } => format!("SetM {place} {mark}"),
+        Step::SetO { cpu } => format!("SetO {cpu}"),
+        Step::SetA { place, sets } => format!("SetA {place} {sets}"),
+        Step::LoadA { cpu, place, sets } => format!("LoadA {cpu} {place} {}", or_none(sets)),
+        Step::Split { pass, cpu } => format!("Split {pass} {}", or_none(cpu.map(|cpu| cpu as u64))),
+        Step::Join { pass } => format!("Join {pass}"),
+    };
+    format!("{caller} {words}")
 }

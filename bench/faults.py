@@ -3,14 +3,14 @@
 
     bench/faults.py [CASE..]
 
-The programs are bench/check.rs, bench/replay.rs, bench/run.rs, bench/groups.rs, bench/record.rs and bench/certify.rs,
-or for these and for `gen` the one that VOZHKELL names, called with the word of the command. The traces are some of
-bench/rows, with what is written there of their outputs; the beginnings of one by bench/phases.py and of one by
-bench/groups.py, of which the plain programs say what is to be written; and 2,000 phases of one lane each, of which the
-rules say it. `certify` is given histories of bench/rows and a long one that bench/record.rs writes. Of an input that
-ends early bench/certify.py says what `certify` answers, and bench/make_history.py what `record` writes after the trace.
-Under `run` no phase has lines of two lanes, so that one output is right, and under `groups` what two lanes answer is
-the same in every order. CASES are the names of functions below, and all where none is given. A line is printed for each
+The program is the proved one that VOZHKELL names, and else the plain one: bench/vozhkell.rs, which is built for this
+where PLAIN doesn't name it. The traces are some of bench/rows, with what is written there of their outputs; the
+beginnings of one by bench/phases.py and of one by bench/groups.py, of which the plain program says what is to be
+written; and 2,000 phases of one lane each, of which the rules say it. `certify` is given histories of bench/rows and a
+long one that the plain program records. Of an input that ends early bench/certify.py says what `certify` answers, and
+bench/make_history.py what `record` writes after the trace.
+Under `run` and `groups` one output is right: where a phase has lines of two lanes, what they answer is the same in every
+order. CASES are the names of functions below, and all where none is given. A line is printed for each
 case, and the status is 1 if one fails.
 
 The program needs no build of its own for this: short and failing reads come from sockets, failing writes from full
@@ -34,7 +34,8 @@ TOP = os.path.dirname(os.path.dirname(os.path.abspath(__file__)))
 DONE, WORDS, HEADER, REFUSED, READ, WRITE, MEMORY = range(7)
 NOT_CERTIFIED = 9
 PANIC = 101
-PROVED_USAGE = b"usage: check | replay | run | gen SEED CPUS LINES | groups | record | certify\n"
+USAGE = b"usage: check | replay | run | gen SEED CPUS LINES | groups | record | certify\n"
+USAGE_OF_PLAIN = USAGE + b"Nothing of this program is proved. It is plain Rust: bench/vozhkell.rs.\n"
 # What `gen 1 1 1` prints: its one line adds 19 pages to an item.
 SMALLEST_MADE = b"line 8: report totals\n" + b"".join(b"%s %d\n" % (counter.encode(), {
     "0 Normal nr_free_pages": 1_000_000, "0 Normal nr_zone_unevictable": 19}.get(counter, 0)) for counter in [
@@ -54,9 +55,12 @@ def expect(what, found, wanted):
         raise Wrong(f"{what}: {found!r} where {wanted!r} is expected")
 
 
-def built(name, folder):
-    program = os.path.join(folder, name)
-    source = os.path.join(TOP, "bench", name + ".rs")
+def plain_program(folder):
+    """The plain program: the one that PLAIN names, or one that is built in this folder."""
+    if "PLAIN" in os.environ:
+        return os.environ["PLAIN"]
+    program = os.path.join(folder, "vozhkell")
+    source = os.path.join(TOP, "bench", "vozhkell.rs")
     subprocess.run(["rustc", "-O", "--edition", "2021", "-o", program, source], check=True)
     return program
 
@@ -146,39 +150,39 @@ def taken(text, out, lines):
 
 
 class Trials:
-    def __init__(self, programs, plain):
-        """Programs by command, and the plain ones, which say what is to be written of the long traces."""
-        self.programs, self.plain = programs, plain
+    def __init__(self, proved, plain):
+        """The proved program, if it is the one, and the plain one, which says what is to be written of long traces."""
+        self.proved, self.program, self.plain = proved, proved or plain, plain
         self.long = made_by("phases.py", "1", "20000")
         self.two_lanes = self.row("replay", "two_lanes")
         self.burial = self.row("replay", "burial_moves_once")
         self.in_turn = self.row("run", "whole_run_in_turn")
+        self.racing = self.row("run", "racing_lanes_and_totals")
         # Each line of this trace counts, and has the one spelling.
         text = self.two_lanes.text
         self.spelled = self.call("check", text, DONE, text + b"# done accepted 31 refused 0\n")
         longs = [("replay", self.long), ("check", self.long)]
-        self.readers = [self.two_lanes, self.burial, self.in_turn, self.spelled]
+        self.readers = [self.two_lanes, self.burial, self.in_turn, self.racing, self.spelled]
         self.of_groups = [self.row("groups", "groups_" + name) for name in ("flush_of_a_part", "refused_lines_wait")]
         # One CPU, in phases of a hundred lines.
         longs.append(("groups", made_by("groups.py", "1", "20000", "1", "64", "100")))
-        history = run([plain["record"], "record"], self.long)[1]
+        history = run([plain, "record"], self.long)[1]
         longs += [("certify", history), ("record", made_by("phases.py", "1", "1500"))]
         self.readers += self.of_groups
         self.certified = [self.row("certify", "history_" + name)
                           for name in ("after_refused_lines", "in_a_random_order", "of_a_change")]
         self.readers += self.certified
         self.recorded = [self.call("record", self.row("replay", name).text,
-                                   *run([plain["record"], "record"], self.row("replay", name).text))
+                                   *run([plain, "record"], self.row("replay", name).text))
                          for name in ("two_lanes", "burial_moves_once")]
         self.readers += self.recorded
         self.in_phases = self.calls_in_phases()
-        self.longs = [self.call(command, text, *run([plain[command], command], text)) for command, text in longs]
+        self.longs = [self.call(command, text, *run([plain, command], text)) for command, text in longs]
         self.longs += [call for call in self.in_phases if str(call) in ("run", "groups")]
-        self.made = [self.call("gen 1 1 1", b"", DONE, SMALLEST_MADE)] if "gen" in programs else []
+        self.made = [self.call("gen 1 1 1", b"", DONE, SMALLEST_MADE)]
 
     def call(self, words, text, status, out):
-        words = words.split()
-        return Call([self.programs[words[0]], *words], text, status, out)
+        return Call([self.program, *words.split()], text, status, out)
 
     def row(self, command, name):
         """A trace of bench/rows with what is written there of its answer."""
@@ -207,12 +211,12 @@ class Trials:
 
     def copied(self, text):
         """What `record` writes above the history: what `check` writes of these lines, without remarks."""
-        checked = run([self.plain["check"], "check"], text)[1]
+        checked = run([self.plain, "check"], text)[1]
         return b"".join(line for line in checked.splitlines(True) if not line.startswith(b"#"))
 
     def all_words(self):
         """The words of each command that answers lines of a trace of page counters."""
-        return [[self.programs[command], command] for command in ("check", "replay", "run")]
+        return [[self.program, command] for command in ("check", "replay", "run")]
 
     # Reading.
 
@@ -250,13 +254,15 @@ class Trials:
                 elif call is self.spelled:
                     said = whole
                 elif str(call) == "check":
-                    said = run([self.plain["check"], "check"], whole)[1].rpartition(b"# done ")[0]
+                    said = run([self.plain, "check"], whole)[1].rpartition(b"# done ")[0]
                 elif str(call) == "record":
                     said = self.copied(whole)
                 else:
                     said = taken(text, out, lines)
-                found = from_socket(call.words, [text[:size]] if size else [], fails=True)
-                expect(f"{call} and a failed read after {size} bytes", found, (READ, said))
+                pieces = [text[at:min(at + 64, size)] for at in range(0, size, 64)]
+                for packets in ([text[:size]] if size else [], pieces)[:1 if call in self.longs else 2]:
+                    found = from_socket(call.words, packets, fails=True)
+                    expect(f"{call} and a failed read after {size} bytes", found, (READ, said))
 
     def failed_read_in_a_phase(self):
         """What is written then, by hand: the answers of the phases that have ended, and a refused line of the open one
@@ -264,7 +270,8 @@ class Trials:
         words = self.two_lanes.words
         text = b"".join(self.two_lanes.text.splitlines(keepends=True)[:27])
         said = b"line 21: yes free 9968 fast\nline 22: snapshot 9960\nline 23: sum 45\nline 24: compare 1 sum\n"
-        for more, also in [(b"", b""), (b"c0 mod 0 Normal nr_mlock 1\n", b""), (b"c0 val 0 Normal nr_mlock\n", b""),
+        for more, also in [(b"", b""), (b"c0 val 0 Normal nr_mlock", b""), (b"c0 mod 0 Normal nr_mlock 1\n", b""),
+                           (b"c0 val 0 Normal nr_mlock\n", b""),
                            (b"c9 fold 0\n", b"line 28: refused: UnknownLane\n"),
                            (b"c9 fold 0\nc0 sys nr_mlock\nc9 fold 0\n", b"line 28: refused: UnknownLane\n"),
                            (b"c9 fold 0\nc0 fold 0\nc9 fold 0\nflush",
@@ -281,6 +288,11 @@ class Trials:
             for words in self.all_words()[1:]:
                 found = from_socket(words, [head + first + more], fails=True)
                 expect(f"{words[1]} and a failed read after {more!r}", found, (READ, b"line 6: snapshot 1\n" + also))
+        head = b"vmtrace 1\ncpus 1\nzone 0 Normal 262144 100 125 150\ngo\n"
+        for more, also in [(b"", b""), (b"c0 fold 0", b""), (b" c0  fold 0\n# a remark\n\nsync\n", b"c0 fold 0\nsync\n"),
+                           (b"c9 fold 0\nsync\nk fold", b"# line 5: refused: UnknownLane\nsync\n")]:
+            found = from_socket(self.spelled.words, [head + more], fails=True)
+            expect(f"check and a failed read after {more!r}", found, (READ, head + also))
         head = b"vmgroups 1\ncpus 2\ngroup a\ngo\nc1 add a 5\nc1 flush a\nsync\nc1 value a\nsync\n"
         for more, also in [(b"", b""), (b"c0 value a\n", b""), (b"c9 value a\nc0 add a 1\nc0 value b\nreport groups",
                                                                 b"line 10: refused: UnknownLane\n"
@@ -417,7 +429,7 @@ class Trials:
             self.call("record", b"vmtrace 3\n", HEADER, b"line 1: BadMagic\n"),
             self.call("certify", b"vmtrace 1\ncpus 1\nzone 0 Normal 262144 100 125 150\ngo\n", NOT_CERTIFIED,
                       b"line 5: Incomplete\n"),
-            self.call("replay none", b"", WORDS, PROVED_USAGE if "gen" in self.programs else b"usage: replay\n"),
+            self.call("replay none", b"", WORDS, USAGE if self.proved else USAGE_OF_PLAIN),
         ]
 
     def full_device(self):
@@ -483,7 +495,7 @@ class Trials:
 
     def want_of_memory(self):
         """Less and less address space, from where the whole output comes down to where the program doesn't start. The
-        plain programs are ended by Rust's runtime where they find no memory, or panic where they get no thread."""
+        plain program is ended by Rust's runtime where it finds no memory, or panics where it gets no thread."""
         def limited(words, text, size):
             def prepare():
                 resource.setrlimit(resource.RLIMIT_AS, (size, size))
@@ -506,7 +518,7 @@ class Trials:
                 statuses.add(status)
                 if status == call.answer[0]:
                     expect(f"{call} with {size} bytes of memory", out, call.answer[1])
-                elif status == MEMORY or status in (-signal.SIGABRT, PANIC) and "VOZHKELL" not in os.environ:
+                elif status == MEMORY or status in (-signal.SIGABRT, PANIC) and not self.proved:
                     began = call.answer[1][:len(out)]
                     expect(f"{call} with {size} bytes of memory, what began the output", out, began)
                 else:
@@ -523,10 +535,7 @@ def main():
     # A plain program that finds no memory while it writes the stack of a panic may hang.
     os.environ["RUST_BACKTRACE"] = "0"
     with tempfile.TemporaryDirectory() as folder:
-        plain = {command: built(command, folder) for command in ("check", "replay", "run", "groups", "record",
-                                                               "certify")}
-        proved = os.environ.get("VOZHKELL")
-        trials = Trials(dict.fromkeys((*plain, "gen"), proved) if proved else plain, plain)
+        trials = Trials(os.environ.get("VOZHKELL"), plain_program(folder))
         failed = 0
         for case in sys.argv[1:] or CASES:
             try:

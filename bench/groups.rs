@@ -1,26 +1,13 @@
 //! The job of `vozhkell groups` in plain Rust, written by hand. bench/run.sh measures the proved program beside it.
 //!
-//! It writes what the proved program may write, but for the usage line, which has its own word alone. It ends with the
-//! statuses of the proved one: 0, 1 for other words, 2 for a refused header, 3 where a line was refused, 4 for a failed
-//! read and 5 for a failed write, and 7 past a limit.
-//!
 //! bench/lanes.rs says how it makes a phase on threads, and what STANDING_THREADS in its environment changes.
 
-mod apart;
-mod commands;
-mod group_trace;
-mod group_words;
-mod lanes;
-mod names;
-mod trace;
-
-use commands::{Failure, Input, Output, Text};
-use group_trace::{Due, GroupAct, GroupHeader, GroupJudge, GroupLine};
-use group_words::Groups;
-use lanes::{Job, Lanes};
+use crate::commands::{Failure, Input, Output, Text};
+use crate::group_trace::{Due, GroupAct, GroupHeader, GroupJudge, GroupLine};
+use crate::group_words::Groups;
+use crate::lanes::{self, Job, Lanes};
+use crate::trace::Cause;
 use std::io;
-use std::process::ExitCode;
-use trace::Cause;
 
 impl Job for Groups<'_> {
     type Act = GroupAct;
@@ -95,7 +82,7 @@ impl Run<'_, '_> {
     }
 }
 
-fn groups(input: &mut Input, out: &mut Output) -> Result<u8, Failure> {
+pub fn groups(input: &mut Input, out: &mut Output) -> Result<u8, Failure> {
     let header = header(input)?;
     let groups = &Groups::start(&header);
     let mut judge = GroupJudge::new(&header);
@@ -107,8 +94,4 @@ fn groups(input: &mut Input, out: &mut Output) -> Result<u8, Failure> {
         tally.write(&mut out.held)?;
         Ok(tally.status())
     })
-}
-
-fn main() -> ExitCode {
-    commands::run("groups", groups)
 }

@@ -10,7 +10,7 @@
 # Needed are Linux, bash, python3, rustc, valgrind, and the proved program, which
 # `./vozhkell replay < examples/first.vmtrace` builds. Another program may be named in VOZHKELL.
 set -u
-top=$(cd "$(dirname "${BASH_SOURCE[0]}")/.." && pwd) || exit 2
+top=$(CDPATH= cd -- "$(dirname "${BASH_SOURCE[0]}")/.." && pwd) || exit 2
 lines=${1:-200000}
 proved=${VOZHKELL:-$top/crates/vozhkell/out/vozhkell}
 
@@ -40,7 +40,8 @@ for command in check replay; do
         check) generator=mixed ;;
         replay) generator=changes ;;
     esac
-    rustc -O -C target-cpu=x86-64-v2 --edition 2021 -o "$work/plain" "$top/bench/$command.rs" || exit 2
+    rustc -O -A dead_code -C target-cpu=x86-64-v2 --edition 2021 --cfg alone --cfg "alone=\"$command\"" \
+        -o "$work/plain" "$top/bench/vozhkell.rs" || exit 2
     python3 -B "$top/bench/$generator.py" >"$work/whole" || exit 2
     head -n "$lines" "$work/whole" >"$work/trace"
     if ! cmp <("$proved" $command <"$work/trace") <("$work/plain" $command <"$work/trace"); then

@@ -8,6 +8,10 @@ alone: what a pass knows and carries, what a CPU has spent, and what CPUs may hi
 that stand. An event that isn't legal is not taken, and the history goes on without it. At the end stands how many
 events of each kind were legal, and how often each clause of the definitions was broken: in all, and alone.
 
+For rows, which all takes too, the histories are those of bench/histories, which were judged by hand
+(bench/judge_rows.py). The definitions have to say the same of each of their events. Of each table all takes also the
+history of 1,000 events that bench/judging.py makes, each of which has to be legal.
+
 PATH is that of the built vms_judge_lines, which gets a line for each history and answers with one; without it nothing
 is compared. The first difference is printed with its history, and gives status 1. With --self each clause that can be
 broken has to be broken once in a hundred histories, or the status is 1 too. With --write the lines go to the file stdin
@@ -18,9 +22,16 @@ import importlib
 import subprocess
 import sys
 
+import judge_rows
 import judge_rules
+import judge_stories
+import judging
 
 TABLES = ("pages", "events", "percpu", "groups")
+# The tables of which bench/histories has histories.
+BY_HAND = ("pages", "events", "percpu")
+# How many events a long history has between the first and the last passes.
+LONG = 1000
 # Histories go to the program in parts.
 AT_ONCE = 2000
 # Clauses that hold wherever the others of the same kind of step and of its pass do, and are broken only with them.
@@ -71,30 +82,23 @@ class Counts:
 
 
 class Judged:
-    """A random history with the verdict on each of its events."""
+    """A history with the verdict on each of its events."""
 
-    def __init__(self, name, dice, counts):
+    def __init__(self, name, facts, counts):
         table = importlib.import_module(f"judge_{name}")
         self.table = name
-        self.facts = table.draw_facts(dice)
+        self.facts = facts
         self.history = table.History(self.facts)
         # (caller, step, the clauses that it breaks)
         self.events = []
         broken = counts.clause(table.base_conditions(self.facts))
         if broken:
             self.end = "no base"
-            self.events = [(0, ("Split", 1, 0), broken)]
+            self.events = [(caller, step, broken) for caller, step in self.unjudged()]
         else:
-            self.draw(table.Maker(dice, self.history), dice, counts)
+            self.make(table, counts)
             self.end = "open" if self.history.living() else "ended"
         counts.histories[self.end] += 1
-
-    def draw(self, maker, dice, counts):
-        for _ in range(dice.choice([10, 40, 80, 120])):
-            self.add(*maker.event(), counts)
-        if dice.random() < 0.6:
-            for event in maker.last_events():
-                self.add(*event, counts)
 
     def add(self, caller, step, counts):
         broken = counts.clause(self.history.conditions(caller, step))
@@ -125,7 +129,49 @@ class Judged:
             theirs = verdicts[number:number + 1] or "-"
             mark = " <-- differs" if here != theirs else ""
             print(f"{number:4} {here} {theirs} {caller}: {step} {'; '.join(broken)}{mark}")
-        print(f"here: {self.answer()}\nthe program: {answer}")
+        print(f"here: {self.answer()}\nthere: {answer}")
+
+
+class Drawn(Judged):
+    """A random history."""
+
+    def __init__(self, name, dice, counts):
+        self.dice = dice
+        super().__init__(name, importlib.import_module(f"judge_{name}").draw_facts(dice), counts)
+
+    def unjudged(self):
+        return [(0, ("Split", 1, 0))]
+
+    def make(self, table, counts):
+        maker = table.Maker(self.dice, self.history)
+        for _ in range(self.dice.choice([10, 40, 80, 120])):
+            self.add(*maker.event(), counts)
+        if self.dice.random() < 0.6:
+            for event in maker.last_events():
+                self.add(*event, counts)
+
+
+class Given(Judged):
+    """A history whose events are given."""
+
+    def __init__(self, name, facts, events, counts):
+        self.given = events
+        super().__init__(name, facts, counts)
+
+    def unjudged(self):
+        return self.given
+
+    def make(self, table, counts):
+        for caller, step in self.given:
+            self.add(caller, step, counts)
+
+
+class ByHand(Given):
+    """A history of bench/histories."""
+
+    def __init__(self, name, row, counts):
+        self.row = row
+        super().__init__(name, row.facts, [(caller, step) for caller, step, _ in row.events], counts)
 
 
 def compare(program, judged):
@@ -145,18 +191,55 @@ def compare(program, judged):
     return True
 
 
+def hand_on(judged, asked):
+    """Gives histories to the program and to the files that are asked for. Whether the program says the same of them."""
+    if asked.program and not compare(asked.program, judged):
+        return False
+    if asked.write:
+        for file, lines in [("stdin", map(Judged.line, judged)), ("stdout", map(Judged.answer, judged))]:
+            with open(f"{asked.write}/{file}", "a", encoding="ascii") as out:
+                out.writelines(line + "\n" for line in lines)
+    return True
+
+
+def judge_rows_of(name, asked):
+    """Whether the histories of a table that were judged by hand are judged so by the definitions and the program."""
+    counts, rows = Counts(), judge_rows.rows_of(name)
+    judged = [ByHand(name, row, counts) for row in rows]
+    same = True
+    for history in judged:
+        if history.answer() != history.row.answer():
+            print(f"{name}, {history.row.name}: the verdicts by hand differ:")
+            history.print(history.row.answer())
+            same = False
+    for title in judge_stories.differing(rows) if name == "pages" else ():
+        print(f"{name}, {title}: crates/vms_model_trials/src/stories.rt tells it otherwise")
+        same = False
+    same = hand_on(judged, asked) and same
+    print(f"{name}: {len(judged)} histories that were judged by hand, {sum(counts.legal.values())} legal events, "
+          f"{sum(counts.illegal.values())} illegal")
+    return same
+
+
+def judge_long(name, asked):
+    """Whether each event of a long history is legal, and all its passes end."""
+    facts, events = judging.TABLES[name][1](judge_rules.ONLINE), list(judging.events_of(name, LONG))
+    history = Given(name, facts, events, Counts())
+    same = history.answer() == "1" * len(events) + " ended"
+    if not same:
+        print(f"{name}: not all of a long history is legal")
+        history.print("")
+    return hand_on([history], asked) and same
+
+
 def judge(name, asked):
     """Whether the histories of a table are judged alike, and break each clause often enough."""
     dice, counts, left = judge_rules.Dice(asked.seed), Counts(), asked.histories
     while left:
-        judged = [Judged(name, dice, counts) for _ in range(min(left, AT_ONCE))]
+        judged = [Drawn(name, dice, counts) for _ in range(min(left, AT_ONCE))]
         left -= len(judged)
-        if asked.program and not compare(asked.program, judged):
+        if not hand_on(judged, asked):
             return False
-        if asked.write:
-            for file, lines in [("stdin", map(Judged.line, judged)), ("stdout", map(Judged.answer, judged))]:
-                with open(f"{asked.write}/{file}", "a", encoding="ascii") as out:
-                    out.writelines(line + "\n" for line in lines)
     print(f"{name}: ", end="")
     counts.print()
     if asked.program:
@@ -170,7 +253,7 @@ def judge(name, asked):
 
 def main():
     parser = argparse.ArgumentParser(description=__doc__.split("\n")[0])
-    parser.add_argument("table", choices=[*TABLES, "all"])
+    parser.add_argument("table", choices=[*TABLES, "rows", "all"])
     parser.add_argument("--seed", type=int, default=1)
     parser.add_argument("--histories", type=int, default=1000)
     parser.add_argument("--program")
@@ -180,8 +263,11 @@ def main():
     if asked.write:
         for file in ("stdin", "stdout"):
             open(f"{asked.write}/{file}", "w").close()
-    names = TABLES if asked.table == "all" else [asked.table]
-    return 0 if all([judge(name, asked) for name in names]) else 1
+    names = {"all": TABLES, "rows": ()}.get(asked.table, [asked.table])
+    by_hand = BY_HAND if asked.table in ("all", "rows") else ()
+    same = [judge(name, asked) for name in names] + [judge_rows_of(name, asked) for name in by_hand]
+    same += [judge_long(name, asked) for name in (TABLES if asked.table == "all" else ())]
+    return 0 if all(same) else 1
 
 
 if __name__ == "__main__":

@@ -1,11 +1,8 @@
-//! The lanes of a phase on threads, for the plain programs: the lines of a phase are kept by lane until it ends, and
+//! The lanes of a phase on threads, for the plain program: the lines of a phase are kept by lane until it ends, and
 //! what they answer is written in the order of the lines.
 //!
 //! A thread is started for each lane that has lines. Where the environment has STANDING_THREADS each lane has one
 //! thread for the whole run, which waits for its lines of each phase.
-
-// Each program uses a part of it.
-#![allow(dead_code)]
 
 use crate::commands::{Output, Text};
 use crate::trace::Cause;

@@ -1,7 +1,7 @@
 """Makes the traces that are too long to stand in bench/rows, each with its expected outputs, for bench/rows.py.
 
-They are for the limits of a trace, for many changes of one counter, and for the largest report of each version; and of
-traces of groups for the limits and for many changes of one tree. The outputs are put together from what each line
+They are for the limits of a trace, for many changes of one counter by lanes that race, and for the largest report of
+each version; and of traces of groups for the limits and for many changes of one tree. The outputs are put together from what each line
 prints by the rules of the format, not by a program that replays it.
 """
 from typing import NamedTuple
@@ -75,6 +75,32 @@ def crowd():
             body += [f"c{n // 100 % 8} fold {cpu}", "k pressure 0", f"k fold {cpu}", "k normal 0"]
     lines = head(8, 10_000) + body + ["report totals"]
     return Large(lines, ["line 80406: report totals", *totals(90_000), "done accepted 80401 refused 0"], 0)
+
+
+def counts_of_two_lanes():
+    """Two lanes that count an event and add 3 to a percpu counter, 10,000 times each. Of 11 additions the eleventh
+    reaches the batch and moves 33, so that 909 times 33 and a 3 are left of each lane's."""
+    head_lines = ["vmtrace 1", "cpus 2", "zone 0 Normal 262144 100 125 150", "counter files 32", "go"]
+    body = ["c0 ev pgfault 1", "c1 ev pgfault 1", "c0 cnt files 3", "c1 cnt files 3"] * 10_000
+    body += ["sync", "c0 evsum pgfault", "c0 rough files", "c0 sum files", "report counters"]
+    lines = head_lines + body
+    at = len(lines)
+    return Large(lines, [f"line {at - 3}: events 20000", f"line {at - 2}: count 59994", f"line {at - 1}: sum 60000",
+                         f"line {at}: report counters", "files batch 32 count 59994 locals 3 3 sum 60000",
+                         f"done accepted {len(body)} refused 0"], 0)
+
+
+def burials_beside_counts():
+    """100 times a CPU that is dead, with 5 events and 7 things, is buried while another counts 100 and adds 100."""
+    head_lines = ["vmtrace 1", "cpus 2", "zone 0 Normal 262144 100 125 150", "counter files 32", "go"]
+    body = []
+    for _ in range(100):
+        counts = ["c0 ev pgfault 1", "c0 cnt files 1"] * 100
+        body += ["c1 ev pgfault 5", "c1 cnt files 7", "offline 1", *counts[:100], "k dead 1", *counts[100:], "online 1"]
+    body += ["c0 evsum pgfault", "c0 sum files"]
+    lines = head_lines + body
+    return Large(lines, [f"line {len(lines) - 1}: events 10500", f"line {len(lines)}: sum 10700",
+                         f"done accepted {len(body)} refused 0"], 0)
 
 
 def reports(count):
@@ -231,6 +257,16 @@ def many_changes_of_groups():
     return Large(lines, out + [f"done accepted {len(body)} refused 0"], 0)
 
 
+def flushes_of_two_lanes():
+    """Two lanes that change a group and flush one above it, 10,000 times each, as a chain of three has them."""
+    body = ["c0 add c 3", "c1 add b -1", "c0 flush b", "c1 flush a"] * 10_000
+    body += ["sync", "c0 flush a", "report groups"]
+    lines = ["vmgroups 1", "cpus 2", "group a", "group b a", "group c b", "go"] + body
+    values = {"a": 20_000, "b": 20_000, "c": 30_000}
+    out = [f"line {len(lines)}: report groups", *(f"{name} value {n} pending 0 total {n}" for name, n in values.items())]
+    return Large(lines, out + [f"done accepted {len(body)} refused 0"], 0)
+
+
 def reports_of_groups(count):
     lines, out = GROUP_HEAD + ["c0 add b 5"] + ["report groups"] * count, []
     for n in range(min(count, 1_000)):
@@ -278,6 +314,8 @@ def large_rows():
     return [
         ("many_changes", many_changes),
         ("crowd", crowd),
+        ("counts_of_two_lanes", counts_of_two_lanes),
+        ("burials_beside_counts", burials_beside_counts),
         ("as_many_reports", lambda: reports(1_000)),
         ("too_many_reports", lambda: reports(1_001)),
         ("too_many_reports_of_vmstat", too_many_reports_of_vmstat),
@@ -304,6 +342,7 @@ def large_rows():
         ("refused_header_of_too_many_bytes", lambda: one_long_line(
             ["vmtrace 3"], MOST_BYTES + 1, ["line 1: BadMagic"], 2)),
         ("groups_many_changes", many_changes_of_groups),
+        ("groups_flushes_of_two_lanes", flushes_of_two_lanes),
         ("groups_as_many_reports", lambda: reports_of_groups(1_000)),
         ("groups_too_many_reports", lambda: reports_of_groups(1_001)),
         ("groups_as_many_phases", lambda: phases_of_groups(10_000)),

@@ -1,4 +1,4 @@
-//! What the lines of a body make of counters and what is printed of them, for the plain programs that make them.
+//! What the lines of a body make of counters and what is printed of them, for the plain commands that make them.
 
 use crate::commands::Text;
 use crate::counters::{Counters, Rule, Verdict};

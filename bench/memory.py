@@ -3,13 +3,12 @@
 
     bench/memory.py
 
-The programs are bench/check.rs, bench/replay.rs, bench/run.rs, bench/groups.rs, bench/record.rs and bench/certify.rs,
-or the one that VOZHKELL names, called with the word of the command. The trace has almost 1,000,000 lines in 2,000
-phases, under `run`, `groups` and `record` the first 100,000 in 200, and `certify` is given what is recorded of these.
-Every other phase ends with a report, and a third of the lines of each answers. What is printed is VmHWM of /proc, once
-the program has read all lines, or the last that is seen before it ends, as `record` writes the history then. With
-VOZHKELL also `gen` is called, with 100,000 lines on 8 CPUs, which reads nothing. The status is 1 if it is more than is
-allowed or the program doesn't end with status 0.
+The program is the proved one that VOZHKELL names, and else the plain one: bench/vozhkell.rs, which is built for this
+where PLAIN doesn't name it. The trace has almost 1,000,000 lines in 2,000 phases, under `run`, `groups` and `record` the
+first 100,000 in 200, and `certify` is given what is recorded of these. Every other phase ends with a report, and a third
+of the lines of each answers. What is printed is VmHWM of /proc, once the program has read all lines, or the last that is
+seen before it ends, as `record` writes the history then. `gen` is called with 100,000 lines on 8 CPUs, and reads
+nothing. The status is 1 if it is more than is allowed or the program doesn't end with status 0.
 """
 import array
 import fcntl
@@ -20,9 +19,9 @@ import tempfile
 import termios
 import time
 
-from faults import built, run
+from faults import plain_program, run
 
-# `record` and `certify` keep the 98,800 lines of the lanes, in 32 bytes each or, the plain programs, in 48: at most 4.8
+# `record` and `certify` keep the 98,800 lines of the lanes, in 32 bytes each or, the plain program, in 48: at most 4.8
 # MB. The history, of which the text alone has 4.3 MB, isn't kept.
 MOST = {"check": 3_000_000, "replay": 3_000_000, "run": 4_000_000, "groups": 4_000_000, "record": 8_000_000,
         "certify": 8_000_000, "gen": 10_000_000}
@@ -117,17 +116,15 @@ def most_of_made(program):
 
 def main():
     failed = 0
-    proved = os.environ.get("VOZHKELL")
     with tempfile.TemporaryDirectory() as folder:
-        programs = {command: proved or built(command, folder) for command in MOST if proved or command != "gen"}
-        for command, program in programs.items():
-            allowed = MOST[command]
+        program = os.environ.get("VOZHKELL") or plain_program(folder)
+        for command, allowed in MOST.items():
             if command == "gen":
                 most, status = most_of_made(program)
             else:
                 text = trace(command)
                 if command == "certify":
-                    text = run([programs["record"], "record"], text)[1]
+                    text = run([program, "record"], text)[1]
                 most, status = most_memory(program, command, text)
             print(f"{command}: at most {most:,} bytes, where {allowed:,} are allowed; status {status}")
             failed += most == 0 or most > allowed or status != 0

@@ -1,4 +1,4 @@
-//! The fixed names of items and events, for the plain programs.
+//! The fixed names of items and events, for the plain program.
 
 pub const ZONE_ITEMS: [&str; 8] = [
     "nr_free_pages",

@@ -1,8 +1,5 @@
-//! The page counters in plain data, step by step and from phase to phase, for the plain programs that write or judge
+//! The page counters in plain data, step by step and from phase to phase, for the plain commands that write or judge
 //! histories.
-
-// Each program uses a part of it.
-#![allow(dead_code)]
 
 use crate::commands::State;
 use crate::counters::{Rule, cover_mark, node_threshold, threshold};
@@ -67,10 +64,6 @@ impl<'a> Pages<'a> {
 
     pub fn list(&self, cpu: usize, group: usize) -> List {
         self.lists[cpu * self.groups() + group]
-    }
-
-    pub fn differential(&self, cpu: usize, counter: usize) -> i64 {
-        i64::from(self.list(cpu, counter / 8)[counter % 8])
     }
 
     /// A threshold, and how often it was set in the phase.

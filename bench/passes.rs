@@ -1,4 +1,4 @@
-//! Which events may follow a history of page counters, for the plain program that judges one: the counters, and what
+//! Which events may follow a history of page counters, for the plain judge of one: the counters, and what
 //! each pass knows and carries.
 
 use crate::commands::State;
@@ -38,7 +38,8 @@ fn carry(amount: &mut i64, pages: i64, amounts: &mut usize) {
 
 pub struct Passes<'a> {
     pub pages: Pages<'a>,
-    begun: u64,
+    /// How many have begun in the phase.
+    pub begun: u64,
     /// By CPU, and last the control pass.
     live: Vec<Pass>,
     /// What each CPU has changed each counter by in the phase, by CPU and then counter.
@@ -85,6 +86,11 @@ impl<'a> Passes<'a> {
     /// Where a pass stands that lives.
     pub fn slot(&self, number: u64) -> Option<usize> {
         self.live.iter().position(|pass| number != 0 && pass.number == number)
+    }
+
+    /// The pass that lives in a slot.
+    pub fn number(&self, slot: usize) -> u64 {
+        self.live[slot].number
     }
 
     fn zone(&self, place: usize) -> Option<&'a Zone> {

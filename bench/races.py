@@ -1,7 +1,7 @@
 #!/usr/bin/env python3
 """Runs a trace whose lanes race many times, and says where the totals that it prints aren't the plain sums.
 
-    bench/races.py [TIMES [SEED [COMMAND]]]
+    bench/races.py [TIMES [SEED [KIND]]]
 
 The program is the one that VOZHKELL names, called with the word `run`, 1,000 times where TIMES isn't given. The trace has
 200 phases of eight CPUs and the control lane: changes of a few page counters, folds of every CPU, pressure and normal
@@ -9,9 +9,13 @@ thresholds, events, percpu counters with their locks, and a CPU that goes down, 
 lanes, and comes back. Every tenth phase ends with `report totals`. The same SEED, 1 where none is given, gives the same
 trace.
 
-With `groups` for COMMAND it is called with that word. The trace has 10 phases of 4,000 lines, in which eight CPUs change,
+With `groups` for KIND it is called with that word. The trace has 10 phases of 4,000 lines, in which eight CPUs change,
 flush and read one tree of six groups. Each phase ends with `report groups`. At last one CPU alone flushes all groups, so
 that nothing is pending in the last report.
+
+With `marks` for KIND a CPU acknowledges its threshold beside a call that may lower the mark, in a trace of 11 lines, and
+a test of a watermark finds the one mark or the other. What is printed is one of the three things that the orders of the
+two lanes give.
 
 The sums are taken from the trace alone, except that a limited addition counts where the output says yes. A run that takes
 longer than a minute counts as one that hangs. The status is 1 if a run is wrong, and 2 if there is nothing to run.
@@ -194,6 +198,22 @@ def wrong_groups(lines, output):
     return wrong
 
 
+MARKS_TRACE = ["vmtrace 1", "cpus 2", "zone 0 Normal 262144 100 105 150", "base 0 Normal nr_free_pages 165", "go",
+               "offline 1", "k dead 1", "c0 fold 0", "k normal 0", "c0 ok 0 Normal high 2", "report zoneinfo"]
+# The mark is 160 where the acknowledgement came first, and 170 where it came later. The test may find the one or the
+# other, or the mark before both.
+MARKS = [("yes free 165 fast", "  drift mark 160"), ("yes free 165 snapshot", "  drift mark 160"),
+         ("yes free 165 snapshot", "  drift mark 170")]
+
+
+def wrong_marks(lines, output):
+    """Whether the test and the mark aren't those of one of the orders."""
+    answers = printed(output)
+    told = answers.get(10, [""])[0]
+    marks = [line for line in answers.get(11, []) if line.startswith("  drift mark ")]
+    return [] if len(marks) == 1 and (told, marks[0]) in MARKS else [f"{told!r} beside {marks}"]
+
+
 def wrong_end(lines, output):
     """Whether the last line doesn't tell that all lines after `go` were accepted."""
     last = f"done accepted {len(lines) - lines.index('go') - 1} refused 0"
@@ -207,8 +227,10 @@ def main(words):
         return 2
     times = int(words[0]) if words else 1000
     seed = int(words[1]) if len(words) > 1 else 1
-    command = words[2] if len(words) > 2 else "run"
-    make, judge = {"run": (trace, wrong_totals), "groups": (group_trace, wrong_groups)}[command]
+    kind = words[2] if len(words) > 2 else "run"
+    command = "groups" if kind == "groups" else "run"
+    make, judge = {"run": (trace, wrong_totals), "groups": (group_trace, wrong_groups),
+                   "marks": (lambda _: MARKS_TRACE, wrong_marks)}[kind]
     lines = make(seed)
     text = "".join(line + "\n" for line in lines).encode()
     outputs = set()

@@ -1,23 +1,11 @@
 //! The job of `vozhkell record` in plain Rust, written by hand: it writes the lines of a trace that count, and then the
 //! steps that they make on the page counters, one phase after another, in the order of the lines.
-//!
-//! It writes what the proved program writes, but for the usage line, which has its own word alone, and ends with its
-//! statuses: 0, 1 for other words, 2 for a refused header, 3 where a line was refused, 4 for a failed read and 5 for a
-//! failed write, and 7 past a limit.
 
-mod canonical;
-mod commands;
-mod counters;
-mod names;
-mod pages;
-mod trace;
-
-use commands::{Failure, Input, Output};
-use counters::{Limits, Rule, changed, node_threshold, threshold, zones_of};
-use pages::{Pages, phases_of};
+use crate::commands::{Failure, Input, Output, State};
+use crate::counters::{Limits, Rule, changed, node_threshold, threshold, zones_of};
+use crate::pages::{Pages, phases_of};
+use crate::trace::{Act, Header, Lane, Line};
 use std::io;
-use std::process::ExitCode;
-use trace::{Act, Header, Lane, Line};
 
 const HIGH: usize = 2;
 
@@ -144,7 +132,7 @@ impl Recorder<'_> {
         self.value(counter)?;
         for cpu in 0..self.header.cpus {
             self.load_state(cpu)?;
-            if self.pages.states[cpu] == commands::State::Online {
+            if self.pages.states[cpu] == State::Online {
                 let list = self.pages.list(cpu, counter / 8).map(i64::from);
                 self.event(" LoadD", [cpu as i64, counter as i64 / 8].into_iter().chain(list))?;
                 sum += list[counter % 8];
@@ -239,7 +227,7 @@ impl Recorder<'_> {
 
     fn bury(&mut self, cpu: usize) -> io::Result<()> {
         self.fold(cpu, false)?;
-        self.pages.states[cpu] = commands::State::Absent;
+        self.pages.states[cpu] = State::Absent;
         self.event(" SetO", [cpu as i64])?;
         self.load_states()?;
         let zones = self.header.zones.len();
@@ -306,7 +294,7 @@ impl Recorder<'_> {
     }
 }
 
-fn record(input: &mut Input, out: &mut Output) -> Result<u8, Failure> {
+pub fn record(input: &mut Input, out: &mut Output) -> Result<u8, Failure> {
     let header = input.header()?;
     header.write_header(&mut out.held)?;
     let mut kept = Vec::new();
@@ -326,8 +314,4 @@ fn record(input: &mut Input, out: &mut Output) -> Result<u8, Failure> {
         recorder.phase(lines)?;
     }
     Ok(tally.status())
-}
-
-fn main() -> ExitCode {
-    commands::run("record", record)
 }

@@ -1,25 +1,13 @@
 //! The job of `vozhkell replay` in plain Rust, written by hand. bench/run.sh measures the proved program beside it.
 //!
-//! It writes what the proved program writes, but for the usage line, which has its own word alone. It ends with the
-//! statuses of the proved one: 0, 1 for other words, 2 for a refused header, 3 where a line was refused, 4 for a failed
-//! read and 5 for a failed write, and 7 past a limit.
-//!
 //! It makes each line as it reads it. Where the environment has KEEP_LINES it keeps the lines of a phase until the phase
 //! ends, as the proved program does and as a program must that runs a phase's lanes on threads.
 
-mod commands;
-mod counters;
-mod lines;
-mod names;
-mod report;
-mod trace;
-mod world;
-
-use commands::{Failure, Input, Output, Text};
-use std::process::ExitCode;
+use crate::commands::{Failure, Input, Output, Text};
+use crate::lines;
+use crate::trace::{Cause, Line};
+use crate::world::World;
 use std::{env, mem};
-use trace::{Cause, Line};
-use world::World;
 
 struct Replay<'a> {
     world: World<'a>,
@@ -65,7 +53,7 @@ impl Replay<'_> {
     }
 }
 
-fn replay(input: &mut Input, out: &mut Output) -> Result<u8, Failure> {
+pub fn replay(input: &mut Input, out: &mut Output) -> Result<u8, Failure> {
     let header = input.header()?;
     let world = World::start(&header);
     let keeps = env::var_os("KEEP_LINES").is_some();
@@ -78,8 +66,4 @@ fn replay(input: &mut Input, out: &mut Output) -> Result<u8, Failure> {
     out.held.append(&mut replay.waiting);
     tally.write(&mut out.held)?;
     Ok(tally.status())
-}
-
-fn main() -> ExitCode {
-    commands::run("replay", replay)
 }

@@ -1,4 +1,4 @@
-//! The four reports, for the plain programs: the lines after `line N: report KIND`.
+//! The four reports, for the plain program: the lines after `line N: report KIND`.
 
 use crate::commands::Text;
 use crate::counters::Counters;

@@ -3,9 +3,9 @@
 
     bench/rows.py [NAME]
 
-The programs are bench/check.rs, bench/replay.rs, bench/run.rs, bench/groups.rs, bench/record.rs and bench/certify.rs,
-or the one that VOZHKELL names, called with the word of the command. With a NAME they get the rows of that name alone,
-and the whole difference is shown. The status is 1 if an answer differs, and 2 if there is no such row.
+The program is the proved one that VOZHKELL names, and else the plain one: bench/vozhkell.rs, which is built for this
+where PLAIN doesn't name it. With a NAME it gets the rows of that name alone, and the whole difference is shown. The
+status is 1 if an answer differs, and 2 if there is no such row.
 
 In bench/rows there are
 - NAME.vmtrace with NAME.out, which `replay` and `run` print of it, or with NAME.check, which `check` prints, or both. A
@@ -15,9 +15,11 @@ In bench/rows there are
 - NAME.vmhistory with NAME.out, of `certify`;
 - `spoiled_lines`: the number of a line of history_of_a_change.vmhistory, what `certify` says of it with another line in
   its place, as the number and the cause, and that line. `end` for the number is a line after the last one, and for the
-  line nothing stands there. On standard error the proved program says that the line of this number is due, or nothing;
-- `due_lines`: NAME.vmhistory, the number of a line of it, what the proved program says is due on standard error with
-  another line in its place, `|`, and that line. For no line nothing stands there, and the history ends;
+  line nothing stands there. On standard error the program says that the line of this number is due, or nothing;
+- `due_lines`: NAME.vmhistory, the number of a line of it, what the program says is due on standard error with another
+  line in its place, `|`, and that line. For no line nothing stands there, and the history ends;
+- `event_lines`: a line of a written history, with escapes as in C, as the first one of a phase on two CPUs, after the
+  line that `certify` refuses and its cause, or `- certified`;
 - `statuses`: the status of each NAME, and `same` where lanes race and every order gives the same bytes;
 - `headers`: the line at fault and its cause, and the text, with escapes as in C;
 - `watermarks`: KBYTES, SCALE, the managed pages of a zone and of all, and its watermarks, as `check` writes them;
@@ -25,7 +27,7 @@ In bench/rows there are
 
 A text of at most 4096 bytes comes whole, and in pieces of 1, 7 and 64 bytes, each in a read of its own. What `check`
 writes of a trace it accepts again. Expected outputs were written by hand from the rules of the formats and of the
-counters, so that they judge the plain programs as well as the proved one.
+counters, so that they judge the plain program as well as the proved one.
 """
 import ast
 import difflib
@@ -38,21 +40,21 @@ import sys
 import tempfile
 
 from agree import fixed
-from faults import HEADER, NOT_CERTIFIED, WORDS, built, from_socket, run
+from faults import HEADER, NOT_CERTIFIED, USAGE, USAGE_OF_PLAIN, WORDS, from_socket, plain_program, run
 from large_rows import Large, large_rows
 
 TOP = os.path.dirname(os.path.dirname(os.path.abspath(__file__)))
 ROWS = os.path.join(TOP, "bench", "rows")
-COMMANDS = ("check", "replay", "run", "groups", "record", "certify")
 PIECES = (1, 7, 64)
 MOST_IN_PIECES = 4096
 MOST_LINES = 1_000_000
 TOO_LONG = 7
 RUNS_OF_A_RACE = 3
 MOST_ZONE = 1 << 40
-USAGE = b"usage: check | replay | run | gen SEED CPUS LINES | groups | record | certify\n"
-# That of the plain program, which has its own word alone.
-USAGE_OF_REPLAY = b"usage: replay\n"
+# A history, above and below where a line of `event_lines` stands.
+EVENT_LINES = (b"vmtrace 1\ncpus 2\nzone 0 Normal 262144 100 125 150\ngo\nc0 mod 0 Normal nr_free_pages 5\nhistory 1\n"
+               b"phase\n",
+               b"0 Split 1 0\n1 LoadT 0 20 0\n1 LoadD 0 0 0 0 0 0 0 0 0 0\n1 Put 0 0 0 0 0 0 0 0 0 20 5 0\n0 Join 1\n")
 BOUNDARIES = {b"sync", b"flush", b"offline", b"online", b"report"}
 
 
@@ -93,8 +95,8 @@ def said_on_error(words, text):
 
 
 class Answers:
-    def __init__(self, programs, usage, shows_all, tells_due):
-        self.programs, self.usage, self.shows_all, self.tells_due = programs, usage, shows_all, tells_due
+    def __init__(self, program, usage, shows_all):
+        self.program, self.usage, self.shows_all = program, usage, shows_all
         self.count = self.differ = 0
 
     def expect(self, what, found, wanted, same_in_order=None):
@@ -113,7 +115,7 @@ class Answers:
 
     def ask(self, command, name, text, wanted, times=1, same_in_order=None):
         """One command on one text: whole, so many times, and a short one in pieces."""
-        words = [self.programs[command], command]
+        words = [self.program, command]
         for _ in range(times):
             self.expect(f"{command} of {name}", run(words, text), wanted, same_in_order)
         if len(text) <= MOST_IN_PIECES:
@@ -123,10 +125,9 @@ class Answers:
                             same_in_order)
 
     def ask_of_due(self, name, text, due):
-        """What is due where `certify` refuses a history. The plain program doesn't tell it."""
-        if self.tells_due:
-            self.expect(f"what is due by certify of {name}", said_on_error([self.programs["certify"], "certify"], text),
-                        (NOT_CERTIFIED, b"due: " + due + b"\n"))
+        """What is due where `certify` refuses a history."""
+        self.expect(f"what is due by certify of {name}", said_on_error([self.program, "certify"], text),
+                    (NOT_CERTIFIED, b"due: " + due + b"\n"))
 
     def ask_of_trace(self, name, text, status, out, checked, is_same):
         """All that is known of a trace of counters: what `replay` and `run` print, and what `check` writes."""
@@ -141,13 +142,13 @@ class Answers:
         if checked is not None:
             self.ask("check", name, text, (status, checked))
             if checked.startswith(b"vmtrace") and checked.count(b"# done") == 1:
-                self.expect(f"check of what it wrote of {name}", run([self.programs["check"], "check"], checked),
+                self.expect(f"check of what it wrote of {name}", run([self.program, "check"], checked),
                             (0, without_refusals(checked)))
 
     def ask_of_record(self, name, text):
         """What `record` writes: what `check` writes, without remarks, and a history that is certified."""
-        status, checked = run([self.programs["check"], "check"], text)
-        found = run([self.programs["record"], "record"], text)
+        status, checked = run([self.program, "check"], text)
+        found = run([self.program, "record"], text)
         if not checked.startswith(b"vmtrace"):
             self.expect(f"record of {name}", found, (status, checked))
             return
@@ -157,7 +158,7 @@ class Answers:
             return
         self.expect(f"record of {name}, above its history", (found[0], found[1][:len(copied) + 10]),
                     (status, copied + b"history 1\n"))
-        verdict = run([self.programs["certify"], "certify"], found[1])
+        verdict = run([self.program, "certify"], found[1])
         within = found[1].count(b"\n") <= MOST_LINES
         self.expect(f"certify of what it recorded of {name}", (verdict[0], verdict[1].split(b" phases ")[0]),
                     (0, b"certified") if within else (TOO_LONG, b""))
@@ -167,7 +168,7 @@ class Answers:
         with tempfile.TemporaryFile() as file:
             file.write(b"vmtrace 1\n")
             file.seek(0)
-            done = subprocess.run([self.programs["replay"], *words], stdin=file, capture_output=True, timeout=60)
+            done = subprocess.run([self.program, *words], stdin=file, capture_output=True, timeout=60)
             left_at = os.lseek(file.fileno(), 0, os.SEEK_CUR)
         self.expect(f"the words {words}", (done.returncode, done.stdout), (WORDS, self.usage))
         self.expect(f"how far the words {words} read", (left_at, b""), (0, b""))
@@ -179,7 +180,7 @@ class Answers:
             rest -= zones[-1]
         text = f"vmtrace 1\ncpus 1\nwatermarks {kbytes} {scale}\n"
         text += "".join(f"zone {node} Normal {pages}\n" for node, pages in enumerate(zones)) + "go\n"
-        status, out = run([self.programs["check"], "check"], text.encode())
+        status, out = run([self.program, "check"], text.encode())
         zone = next((line for line in out.splitlines() if line.startswith(b"zone 0 ")), b"")
         wanted = "zone 0 Normal {} {} {} {}".format(managed, *marks).encode()
         self.expect(f"the watermarks of {kbytes} KiB, scale {scale}, {managed} of {total}", (status, zone), (0, wanted))
@@ -250,6 +251,14 @@ def ask_all(answers, wanted_name):
                         (NOT_CERTIFIED, f"line {fault}: {cause}\n".encode()))
             answers.ask_of_due(f"the line {number} {instead}", text,
                                history[at].rstrip(b"\n") if at < len(history) else b"nothing")
+    if wanted_name in (None, "event_lines"):
+        for line in table("event_lines"):
+            rows += 1
+            number, cause, text = line.split(" ", 2)
+            text = b"".join([EVENT_LINES[0], ast.literal_eval("b" + text), b"\n", EVENT_LINES[1]])
+            answers.ask("certify", f"the event line {line[:100]}", text,
+                        (0, b"certified phases 1 events 5\n") if number == "-" else
+                        (NOT_CERTIFIED, f"line {number}: {cause}\n".encode()))
     if wanted_name in (None, "due_lines"):
         for line in table("due_lines"):
             rows += 1
@@ -273,8 +282,8 @@ def main():
     wanted_name = sys.argv[1] if len(sys.argv) > 1 else None
     with tempfile.TemporaryDirectory() as folder:
         proved = os.environ.get("VOZHKELL")
-        programs = {command: proved or built(command, folder) for command in COMMANDS}
-        answers = Answers(programs, USAGE if proved else USAGE_OF_REPLAY, wanted_name is not None, bool(proved))
+        usage = USAGE if proved else USAGE_OF_PLAIN
+        answers = Answers(proved or plain_program(folder), usage, wanted_name is not None)
         rows = ask_all(answers, wanted_name)
     if not rows:
         print(f"bench/rows.py: there is no row {wanted_name}", file=sys.stderr)

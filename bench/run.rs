@@ -1,28 +1,13 @@
 //! The job of `vozhkell run` in plain Rust, written by hand. bench/run.sh measures the proved program beside it.
 //!
-//! It writes what the proved program may write, but for the usage line, which has its own word alone. It ends with the
-//! statuses of the proved one: 0, 1 for other words, 2 for a refused header, 3 where a line was refused, 4 for a failed
-//! read and 5 for a failed write, and 7 past a limit.
-//!
 //! bench/lanes.rs says how it makes a phase on threads, and what STANDING_THREADS in its environment changes.
 
-mod apart;
-mod commands;
-mod counters;
-mod lanes;
-mod lines;
-mod names;
-mod report;
-mod shared;
-mod trace;
-
-use commands::{Failure, Input, Output, Text};
-use lanes::{Job, Lanes};
-use lines::Answer;
-use shared::Shared;
+use crate::commands::{Failure, Input, Output, Text};
+use crate::lanes::{self, Job, Lanes};
+use crate::lines::{self, Answer};
+use crate::shared::Shared;
+use crate::trace::{Act, Cause, Lane, Line};
 use std::io;
-use std::process::ExitCode;
-use trace::{Act, Cause, Lane, Line};
 
 impl Job for Shared<'_> {
     type Act = Act;
@@ -71,7 +56,7 @@ impl Run<'_, '_> {
     }
 }
 
-fn run(input: &mut Input, out: &mut Output) -> Result<u8, Failure> {
+pub fn run(input: &mut Input, out: &mut Output) -> Result<u8, Failure> {
     let header = input.header()?;
     let counters = &Shared::start(&header);
     lanes::on_threads(counters, header.cpus + 1, |lanes| {
@@ -81,8 +66,4 @@ fn run(input: &mut Input, out: &mut Output) -> Result<u8, Failure> {
         tally.write(&mut out.held)?;
         Ok(tally.status())
     })
-}
-
-fn main() -> ExitCode {
-    commands::run("run", run)
 }

@@ -1,11 +1,11 @@
 #!/usr/bin/env bash
 # Measures the proved program beside the same job in plain Rust, bench/replay.rs, bench/check.rs, bench/run.rs,
-# bench/groups.rs, bench/record.rs or bench/certify.rs, on a trace of 1,000,000 lines: for `replay` changes of counters
-# (bench/changes.py), for `check` lines of every form (bench/mixed.py), for `run` lines of every kind on 8 CPUs
-# (bench/phases.py), for `groups` changes and flushes of 64 groups on 8 CPUs (bench/groups.py), the last two in phases
-# of 200, then of 10,000, and then of 1,000,000 lines. For `wide` it is `run` of 100,000 lines on 128 CPUs with 16
-# zones, in phases of 200 lines. For `record` it is a trace of 128,000 lines of bench/phases.py, in phases of 200, and
-# for `certify` what bench/record.rs writes of it, with about 850,000 events.
+# bench/groups.rs, bench/record.rs or bench/certify.rs alone in bench/vozhkell.rs, on a trace of 1,000,000 lines: for
+# `replay` changes of counters (bench/changes.py), for `check` lines of every form (bench/mixed.py), for `run` lines of
+# every kind on 8 CPUs (bench/phases.py), for `groups` changes and flushes of 64 groups on 8 CPUs (bench/groups.py), the
+# last two in phases of 200, then of 10,000, and then of 1,000,000 lines. For `wide` it is `run` of 100,000 lines on 128
+# CPUs with 16 zones, in phases of 200 lines. For `record` it is a trace of 128,000 lines of bench/phases.py, in phases
+# of 200, and for `certify` what the plain program records of it, with about 850,000 events.
 #
 #     bench/run.sh replay|check|run|wide|groups|record|certify [N [loaded]]
 #
@@ -27,7 +27,7 @@
 # the ratio of the least times is printed too, which differed from 1 by at most 4 in 100 there, and a ratio of medians
 # says little before such a run, by VOZHKELL, has shown how far it varies.
 set -u
-top=$(cd "$(dirname "${BASH_SOURCE[0]}")/.." && pwd) || exit 2
+top=$(CDPATH= cd -- "$(dirname "${BASH_SOURCE[0]}")/.." && pwd) || exit 2
 asked=${1:-}
 command=$asked
 [ "$asked" = wide ] && command=run
@@ -48,10 +48,14 @@ unset STANDING_THREADS
 work=$(mktemp -d) || exit 2
 loops=()
 trap 'for loop in "${loops[@]}"; do kill "$loop"; done; rm -rf "$work"' EXIT
-flags=(-O --edition 2021)
+flags=(-O -A dead_code --edition 2021)
 # The proved program is built for this processor.
 [[ $command =~ ^(run|groups)$ ]] && flags+=(-C target-cpu=x86-64-v2)
-rustc "${flags[@]}" -o "$work/plain" "$top/bench/$command.rs" || exit 2
+
+# build COMMAND PROGRAM: builds the plain program of this command alone.
+build() { rustc "${flags[@]}" --cfg alone --cfg "alone=\"$1\"" -o "$2" "$top/bench/vozhkell.rs"; }
+
+build "$command" "$work/plain" || exit 2
 
 # compared: both programs write the same of the trace and end with the same status.
 compared() {
@@ -158,7 +162,7 @@ case $asked in
     record | certify)
         python3 -B "$top/bench/phases.py" 1 128000 8 200 >"$work/trace" || exit 2
         if [ $command = certify ]; then
-            rustc "${flags[@]}" -o "$work/record" "$top/bench/record.rs" || exit 2
+            build record "$work/record" || exit 2
             "$work/record" record <"$work/trace" >"$work/history"
             mv "$work/history" "$work/trace"
         fi

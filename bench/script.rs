@@ -1,4 +1,4 @@
-//! Which steps the lines of a lane make, one after another, for the plain program that judges histories.
+//! Which steps the lines of a lane make, one after another, for the plain judge of histories.
 
 use crate::commands::State;
 use crate::counters::{Limits, Rule, changed, node_threshold, threshold, zones_of};
@@ -64,6 +64,8 @@ enum Due {
 /// What steps of the call have told.
 #[derive(Default)]
 struct Told {
+    /// A threshold and the number of its sets.
+    threshold: (u64, u64),
     first_mark: (u64, u64),
     last_mark: (u64, u64),
     value: i64,
@@ -150,11 +152,56 @@ impl<'a> LaneScript<'a> {
         }
     }
 
+    /// The step that is due, with the numbers that stand.
+    pub fn due_step(&self, pages: &Pages) -> Option<Step> {
+        let Some(&Due::Step(want)) = self.due.last() else {
+            return None;
+        };
+        // A change and an acknowledgement are those of the lane's own CPU.
+        let own = if let Lane::Cpu(cpu) = self.lane { cpu } else { 0 };
+        let standing = |cpu, group| pages.list(cpu, group).map(i64::from);
+        let (threshold, sets) = self.told.threshold;
+        Some(match want {
+            Want::LoadT(place) => {
+                let (threshold, sets) = pages.threshold(own, place);
+                Step::LoadT { place, threshold: threshold.into(), sets: sets.into() }
+            }
+            Want::LoadD(cpu, group) => Step::LoadD { cpu, group, list: standing(cpu, group) },
+            Want::Exchange(counter, delta, mode) => {
+                let (group, list) = (counter / 8, self.told.list);
+                if list == standing(own, group) {
+                    Step::Put { counter, list, threshold, delta, mode }
+                } else {
+                    Step::Miss { group, list }
+                }
+            }
+            Want::Put(counter, delta, mode) => Step::Put { counter, list: [0; 8], threshold, delta, mode },
+            Want::AddG(counter, pages) => Step::AddG { counter, pages },
+            Want::AddS(item, pages) => Step::AddS { item, pages },
+            Want::Take(cpu, group) => Step::Take { cpu, group, list: standing(cpu, group) },
+            Want::LoadG(counter) => Step::LoadG { counter, value: pages.places[counter] },
+            Want::LoadS(item) => Step::LoadS { item, value: pages.system[item] },
+            Want::LoadM(place) => {
+                let (mark, sets) = pages.mark(place);
+                Step::LoadM { place, mark, sets: sets.into() }
+            }
+            Want::LoadO(cpu) => Step::LoadO { cpu, state: pages.states[cpu] as u64 },
+            Want::SetT(cpu, place, threshold) => Step::SetT { cpu, place, threshold: threshold.into() },
+            Want::SetM(place, mark) => Step::SetM { place, mark },
+            Want::SetO(cpu) => Step::SetO { cpu },
+            Want::SetA(place) => Step::SetA { place, sets },
+            Want::LoadA(cpu, place) => {
+                Step::LoadA { cpu, place, sets: pages.acknowledged(cpu, place).map(u64::from) }
+            }
+        })
+    }
+
     /// Goes past the step that was due and was made.
     pub fn go_past(&mut self, step: &Step, pages: &Pages) {
         let made = self.due.pop();
         let told = &mut self.told;
         match *step {
+            Step::LoadT { threshold, sets, .. } => told.threshold = (threshold, sets),
             Step::LoadD { list, .. } | Step::Take { list, .. } => told.list = list,
             Step::Miss { .. } => {
                 if let Some(Due::Step(Want::Exchange(counter, delta, mode))) = made {

@@ -1,7 +1,4 @@
-//! The grammar of a trace, for the plain programs: what its header and a line of its body say, and their causes.
-
-// Each program uses a part of it.
-#![allow(dead_code)]
+//! The grammar of a trace, for the plain program: what its header and a line of its body say, and their causes.
 
 use crate::names::{EVENTS, NODE_ITEMS, ZONE_ITEMS};
 use std::fmt::{self, Display};

@@ -1,4 +1,4 @@
-//! The counters of a run in plain data, for the plain programs: what the lines of a trace do to them, in the order of
+//! The counters of a run in plain data, for the plain program: what the lines of a trace do to them, in the order of
 //! the trace.
 
 use crate::counters::{Counters, Limits, Rule, changed, cover_mark, node_threshold, threshold, zones_of};

@@ -1,5 +1,5 @@
 #!/usr/bin/env python3
-"""Builds the plain programs with one wrong body each, and says which of them the rows of bench/rows let through.
+"""Builds the plain program with one wrong body at a time, and says which of them the rows of bench/rows let through.
 
     bench/wrong_bodies.py [WORD..]
 
@@ -28,6 +28,8 @@ WRONG = [
      "whole_run_in_turn"),
     ("compares percpu counters by the shared part", "replay run", "counters.rs",
      "(self.sum(counter).cmp(&with), false)", "(rough.cmp(&with), false)", "shared_compares"),
+    ("refuses a limited add that just fits by what CPUs may hold", "replay run", "counters.rs",
+     "left + unknown >= 0 &&", "left + unknown > 0 &&", "limited_add_at_unknown"),
     ("compares over the CPUs that are online now", "replay", "world.rs", "        self.present\n",
      "        self.online.len()\n", "present_cpus_of_phase"),
     ("compares over the CPUs that are online now", "run", "shared.rs", "        self.present.load(SeqCst)\n",
@@ -112,8 +114,8 @@ WRONG = [
 ]
 
 
-def built(command, folder, file, old, new):
-    """The program of a command with another text in a file, or what is wrong with that."""
+def built(folder, file, old, new):
+    """The program with another text in a file, or what is wrong with that."""
     here = os.path.join(TOP, "bench")
     for name in os.listdir(here):
         if name.endswith(".rs"):
@@ -125,9 +127,9 @@ def built(command, folder, file, old, new):
         return None, f"{file} has {text.count(old)} times: {old}"
     with open(path, "w") as source:
         source.write(text.replace(old, new))
-    program = os.path.join(folder, command)
-    done = subprocess.run(["rustc", "-C", "opt-level=1", "--edition", "2021", "-A", "warnings", "-o", program,
-                           os.path.join(folder, command + ".rs")], capture_output=True, text=True)
+    program = os.path.join(folder, "vozhkell")
+    done = subprocess.run(["rustc", "-C", "debug-assertions=off", "--edition", "2021", "-A", "warnings", "-o", program,
+                           program + ".rs"], capture_output=True, text=True)
     return (program, None) if done.returncode == 0 else (None, done.stderr[:600])
 
 
@@ -151,13 +153,12 @@ def row_of(name, command):
 def tried(wrong):
     """What goes through of a wrong body, for each command."""
     what, commands, file, old, new, name = wrong
-    through = []
-    for command in commands.split():
-        with tempfile.TemporaryDirectory() as folder:
-            program, fault = built(command, folder, file, old, new)
-            if fault:
-                through.append(f"{command} that {what} can't be built: {fault}")
-                continue
+    with tempfile.TemporaryDirectory() as folder:
+        program, fault = built(folder, file, old, new)
+        if fault:
+            return len(commands.split()), [f"a program that {what} can't be built: {fault}"]
+        through = []
+        for command in commands.split():
             text, status, out = row_of(name, command)
             if run([program, command], text) == (status, out):
                 through.append(f"{command} that {what} answers {name} as it should")

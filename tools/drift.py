@@ -3,8 +3,11 @@
 
 Upper part: the plain value (`val`), the snapshot (`snap`) and the true total, in pages; the true total is the base and
 every change that the program took. Lower part: by what value and snapshot differ from it. The band around the true
-total is the bound that holds of the value: the sum, over the CPUs, of the threshold under which each last changed the
-counter, 0 once it was folded. A value outside of the band ends the tool with status 1.
+total is the nearest bound that holds of the value: the sum, over the CPUs, of the threshold under which each last
+changed the counter, 0 once it was folded. That is the law `drift` of vms_core, and at most what `values_tell_nearly` of
+vms_near allows, since between two lines nothing is in flight. A snapshot is the true total but for what dead CPUs keep,
+by the same thresholds and `snapshots_sum_nearly` of vms_near. A value or a snapshot that is further off ends the tool
+with status 1, and so does an output that isn't whole or isn't that of this trace.
 
 The SVG, or with --data columns for gnuplot, goes to standard output:
 
@@ -14,13 +17,14 @@ The SVG, or with --data columns for gnuplot, goes to standard output:
 import interrupts  # first, for what it does
 import re
 import sys
-from dataclasses import dataclass
+from dataclasses import dataclass, field
 
 import vmtrace
 from vmtrace import called, within
 
-ANSWER = re.compile(r"line (\d+): (value|snapshot) (\d+)$")
-REFUSED = re.compile(r"line (\d+): refused: ")
+PRINTED = re.compile(r"line (\d+): (?:(value|snapshot) (\d+)$|(refused): )?")
+DONE = re.compile(r"done accepted (\d+) refused (\d+)")
+MOST_IN_LINE, BLANKS = 200, " \t\r"
 READINGS = {"val": "value", "snap": "snapshot"}
 MOST = 2**63
 WIDTH, MARGIN = 860, 70
@@ -28,22 +32,61 @@ WIDTH, MARGIN = 860, 70
 
 @dataclass
 class Point:
-    """A line of the trace where the counter was read, and numbers of pages. Value or snapshot may be missing."""
+    """A line of the trace where the counter was read, and numbers of pages. Value or snapshot may be missing.
+
+    `bound` is how far the value can be off, and `dead` how far a snapshot can: by what CPUs keep that are dead.
+    """
 
     line: int
     total: int
     bound: int
-    value: int | None = None
-    snapshot: int | None = None
+    dead: int
+    value: "int | None" = None
+    snapshot: "int | None" = None
 
     @property
     def low(self):
         """The smallest value that the bound allows. A value is never printed below 0."""
-        return max(0, self.total - self.bound)
+        return self.within(self.bound)[0]
 
     @property
     def high(self):
-        return max(0, self.total + self.bound)
+        return self.within(self.bound)[1]
+
+    def within(self, pages):
+        """The least and the most that is printed of a number so near the true total."""
+        return max(0, self.total - pages), max(0, self.total + pages)
+
+    @property
+    def readings(self):
+        """What was read, each with its name and with the least and the most that it can be."""
+        for name, number, pages in (("value", self.value, self.bound), ("snapshot", self.snapshot, self.dead)):
+            if number is not None:
+                yield (name, number, *self.within(pages))
+
+
+@dataclass
+class Printed:
+    """What the program printed: values and snapshots by line of the trace, the lines that it refused, its last line."""
+
+    answers: "dict[int, tuple[str, int]]" = field(default_factory=dict)
+    refused: "set[int]" = field(default_factory=set)
+    last: int = 0
+    done: "tuple[int, int] | None" = None
+
+    def take(self, line):
+        """Takes a line, or a ValueError where it can't stand here."""
+        found, done = PRINTED.match(line), DONE.fullmatch(line)
+        if self.done or found and number_of(found[1]) <= self.last:
+            raise ValueError
+        if found:
+            self.last = number_of(found[1])
+            if found[2]:
+                self.answers[self.last] = found[2], number_of(found[3])
+            elif found[4]:
+                self.refused.add(self.last)
+        elif done:
+            self.done = number_of(done[1]), number_of(done[2])
 
 
 class Bound:
@@ -65,6 +108,9 @@ class Bound:
 
     def pages(self):
         return sum(self.last)
+
+    def pages_of_dead(self):
+        return sum(pages for cpu, pages in enumerate(self.last) if cpu not in self.online)
 
     def normal_threshold(self):
         """That of the zone; of a node the largest of its zones."""
@@ -141,18 +187,40 @@ def number_of(word):
 
 
 def read_answers(name):
-    """The numbers that the program printed, by line of the trace, and the lines that it refused."""
-    answers, refused = {}, set()
+    """What the program printed, which is whole: it ends with its line `done`, and no line is answered twice."""
+    printed = Printed()
     for number, line in enumerate(vmtrace.each_line(name), 1):
         try:
-            if found := ANSWER.match(line):
-                answers[number_of(found[1])] = number_of(found[3])
-            elif found := REFUSED.match(line):
-                refused.add(number_of(found[1]))
+            printed.take(line)
         except ValueError:
             raise vmtrace.BadInput(f"{called(name)}:{number}: the program prints no line "
-                                   f"'{vmtrace.shown(line)}'") from None
-    return answers, refused
+                                   f"'{vmtrace.shown(line)}' here") from None
+    if not printed.done:
+        raise vmtrace.BadInput(f"{called(name)}: the last line isn't 'done accepted A refused R', so it may be cut")
+    return printed
+
+
+def check_whole(printed, lines, header, name, trace):
+    """Each line of the trace has the answer that it needs, and no line another one."""
+    body = dict(enumerate(lines[header.lines:], header.lines + 1))
+    expected = {number: kind for number, line in body.items() if number not in printed.refused
+                for kind in [READINGS.get(" ".join(vmtrace.words_of(line)[1:2]))] if kind}
+    for number in sorted({*expected, *printed.answers}):
+        kind, _ = printed.answers.get(number, ("nothing", 0))
+        if kind != expected.get(number, "nothing"):
+            raise vmtrace.BadInput(f"{name}: has {kind} of line {number}, and {trace} asks for "
+                                   f"{expected.get(number, 'nothing')} there")
+    accepted, refused = printed.done
+    taken = sum(map(is_taken, body.values()))
+    if refused != len(printed.refused) or accepted + refused != taken:
+        raise vmtrace.BadInput(f"{name}: ends with 'done accepted {accepted} refused {refused}', shows "
+                               f"{len(printed.refused)} refused lines, and {trace} has {taken} in all")
+
+
+def is_taken(line):
+    """Whether the program accepts or refuses a line below the header, and doesn't ignore it."""
+    first = vmtrace.WORD.search(line)
+    return len(line) > MOST_IN_LINE or bool(line.strip(BLANKS)) and not (first and first[0].startswith("#"))
 
 
 def readings_of(lines, header):
@@ -174,25 +242,24 @@ def change_of(words, counter, header):
     return 1 if words[1] == "inc" else -1
 
 
-def points_of(lines, header, counter, answers, refused, name):
+def points_of(lines, header, counter, printed, name):
     """A point for each place of the trace where the counter was read, in the order of the lines."""
     bound = Bound(header, counter)
     total = header.bases.get(counter, 0)
     points, place = [], None
-    answered = max(answers, default=0)
-    for number, line in enumerate(lines[header.lines:answered], header.lines + 1):
+    for number, line in enumerate(lines[header.lines:max(printed.answers, default=0)], header.lines + 1):
         words = vmtrace.words_of(line)
-        if not words or number in refused:
+        if not words or number in printed.refused:
             continue
         kind = READINGS.get(" ".join(words[1:2]))
         if kind is None:
             place = None
             total += follow(words, header, counter, bound, f"{name}:{number}")
-        elif " ".join(words[2:]) == str(counter) and number in answers:
+        elif " ".join(words[2:]) == str(counter):
             if place is None:
-                place = Point(number, total, bound.pages())
+                place = Point(number, total, bound.pages(), bound.pages_of_dead())
                 points.append(place)
-            setattr(place, kind, answers[number])
+            setattr(place, kind, printed.answers[number][1])
     return points
 
 
@@ -210,11 +277,12 @@ def follow(words, header, counter, bound, where):
 
 
 def check(points, name):
-    """Every value keeps its bound."""
+    """Every value and every snapshot keeps its bound."""
     for point in points:
-        if point.value is not None and not point.low <= point.value <= point.high:
-            raise vmtrace.BadInput(f"{name}: line {point.line}: the value {point.value} is outside of {point.low} to "
-                                   f"{point.high}, so these aren't the answers to this trace")
+        for kind, number, low, high in point.readings:
+            if not low <= number <= high:
+                raise vmtrace.BadInput(f"{name}: line {point.line}: the {kind} {number} is outside of {low} to {high}, "
+                                       "so these aren't the answers to this trace")
 
 
 def data(points, counter):
@@ -307,7 +375,7 @@ def legend():
         yield f'<line class="{name}" x1="{x}" y1="20" x2="{x + 30}" y2="20"/><text x="{x + 38}" y="24">{text}</text>'
     x = MARGIN + 150 * len(names)
     yield f'<rect class="band" x="{x}" y="13" width="30" height="14"/>'
-    yield f'<text x="{x + 38}" y="24">where the plain value can be</text>'
+    yield f'<text x="{x + 38}" y="24">where the plain value can be, by the law drift</text>'
 
 
 def parse(arguments):
@@ -338,7 +406,9 @@ def main(arguments):
     lines = vmtrace.lines_of(options.trace)
     header = vmtrace.read_header(lines, trace)
     counter = chosen_counter(lines, header, options)
-    points = points_of(lines, header, counter, *read_answers(options.output), trace)
+    printed = read_answers(options.output)
+    check_whole(printed, lines, header, output, trace)
+    points = points_of(lines, header, counter, printed, trace)
     if not points:
         raise vmtrace.BadInput(f"{output}: has no answer to a reading of '{counter}' in {trace}")
     check(points, output)

@@ -1,15 +1,17 @@
 """What the monitor says of a machine: figures with their bounds and laws, by place, in one view."""
+from __future__ import annotations
+
 from dataclasses import dataclass, field
 
 from items import Unit
 
 ABOVE, BELOW, UNKNOWN = "surely above", "surely below", "can't be told"
 LAWS = {
-    "drift": "a counter of a zone or a node is off by at most the thresholds that the CPUs used last on it, and the "
-             "amounts in transit",
+    "values_tell_nearly": "a counter of a zone or a node is off by at most what the CPUs may hide of it, each no more "
+                          "than the largest threshold that it may still use, and by what is in flight",
     "system_drift": "a counter of all nodes is off by at most the thresholds that the CPUs used last on it in each "
-                    "zone or node, and the amounts in transit",
-    "peaks": "no CPU uses a threshold of more than 125 pages",
+                    "zone or node, and by what is in flight",
+    "hiding_is_bounded": "a CPU may hide at most 125 pages of a counter",
 }
 
 
@@ -76,8 +78,8 @@ class Place:
 class View:
     """One look at a machine: its CPUs, how many bytes a page has (0 if not known), and what it shows.
 
-    That is, of its places, of all nodes with vmstat, the free pages of these whichever counters were chosen, and what
-    is assumed.
+    That is, of its places, of all nodes with vmstat, the free pages of these whichever counters were chosen, what is
+    assumed, and what it costs that the size of a page isn't known, if it costs something.
     """
 
     cpus: int
@@ -86,6 +88,7 @@ class View:
     system: dict[str, Figure]
     free: Figure | None
     assumed: list[str]
+    cost: str = ""
 
     @property
     def zones(self):

@@ -13,6 +13,10 @@ Pages on per-CPU lists are not free pages, so no other event changes the counter
 the one that spans the page. Each block is a change of its own; Linux 6.1 subtracts all blocks that fill a per-CPU list
 in one change. No event tells of a page that goes straight to its zone because its per-CPU list is busy.
 
+In the trace the program computes each zone's threshold, for pages of 4096 bytes. Where the machine's is larger, as with
+larger pages, the trace would show too small a bound, and none is made. Where the machine shows a smaller one, as under
+memory pressure, a note says so, and a line of the trace. Of a copy the size of a page has to be told then.
+
 Notes on what was used and left out go to standard error."""
 import interrupts  # first, for what it does
 import io
@@ -52,10 +56,10 @@ class Machine:
     """The zones of a machine that a trace has, its nodes' counters, its online CPUs, and the text that describes it."""
 
     name: str
-    zones: list[Zone]
-    nodes: dict[int, dict[str, int]]
-    cpus: set[int]
-    left_out: list[Zone]
+    zones: "list[Zone]"
+    nodes: "dict[int, dict[str, int]]"
+    cpus: "set[int]"
+    left_out: "list[Zone]"
 
 
 @dataclass(frozen=True)
@@ -108,8 +112,51 @@ def check_machine(machine):
                                f"trace at most {most}")
 
 
-def header_lines(machine, watermarks, added):
-    """The header, and CPUs taken down that aren't online. `added` has pages for nr_free_pages, by zone."""
+def smaller_thresholds(machine, page_bytes):
+    """By zone what is to be said of thresholds that are smaller than those in the trace; larger ones are refused.
+
+    A zone of the machine may have used its normal threshold last where it shows a smaller one, and that is the one for
+    the larger of its managed and present pages. `page_bytes` is 0 where the size of a page isn't known.
+    """
+    online = len(machine.cpus)
+    said = {}
+    for zone in machine.zones:
+        where = f"{machine.name}:{zone.line}: zone {zone}"
+        in_trace = vmtrace.normal_threshold(zone.pages["managed"], online)
+        shown = set(zone.thresholds.values()) or {0}
+        refuse_larger(max(shown), in_trace, f"{where} shows a threshold of")
+        if page_bytes:
+            refuse_larger(vmtrace.normal_threshold(zone.pages["managed"], online, page_bytes), in_trace,
+                          f"{where}, with pages of {page_bytes} bytes, has a threshold of")
+        if not zone.thresholds or min(shown) == in_trace:
+            continue
+        if not page_bytes:
+            raise BadInput(f"{where} shows a threshold of {min(shown)}, and {in_trace} is that of pages of "
+                           f"{vmtrace.PAGE_BYTES} bytes: say with --page-size how large its pages are")
+        most = vmtrace.normal_threshold(max(zone.pages["managed"], zone.pages["present"]), online, page_bytes)
+        refuse_larger(most, in_trace, f"{where} shows a threshold of {min(shown)}, and may have had one of")
+        said[str(zone)] = (f"zone {zone}: the machine showed a threshold of {min(shown)}; it is {in_trace} in the "
+                           "trace, so bounds of it hold, and are wider than that machine's")
+    for zone in machine.left_out:
+        in_trace = [vmtrace.normal_threshold(kept.pages["managed"], online)
+                    for kept in machine.zones if kept.node == zone.node]
+        if in_trace:
+            refuse_larger(max(zone.thresholds.values(), default=0), max(in_trace),
+                          f"{machine.name}:{zone.line}: node {zone.node}, by its zone {zone}, has a threshold of")
+    return said
+
+
+def refuse_larger(threshold, in_trace, told):
+    if threshold > in_trace:
+        raise BadInput(f"{told} {threshold}, and in the trace it is {in_trace}: a bound of the trace would be too "
+                       "small")
+
+
+def header_lines(machine, watermarks, smaller, added):
+    """The header, and CPUs taken down that aren't online.
+
+    `smaller` has what is said of a zone's threshold, `added` pages for nr_free_pages, by zone.
+    """
     cpus = max(machine.cpus) + 1
     yield "vmtrace 1" if cpus <= vmtrace.MAX_CPUS[1] else "vmtrace 2"
     yield f"cpus {cpus}"
@@ -117,6 +164,8 @@ def header_lines(machine, watermarks, added):
         yield "watermarks {} {}".format(*watermarks)
     for zone in machine.zones:
         marks = "" if watermarks else " {min} {low} {high}".format(**zone.pages)
+        if str(zone) in smaller:
+            yield f"# {smaller[str(zone)]}"
         yield f"zone {zone} {zone.pages['managed']}{marks}"
     for zone in machine.zones:
         values = {**zone.items, FREE: zone.items[FREE] + added[str(zone)]}
@@ -143,13 +192,14 @@ def events_of(lines, name, account):
     first = None
     other = False
     for number, line in enumerate(lines, 1):
-        if event := EVENT.match(line):
+        event, lost, written = (form.match(line) for form in (EVENT, LOST, WRITTEN))
+        if event:
             since_boot = time_of(event[2], name, number)
             first = since_boot if first is None else first
             yield Event(number, number_of(event[1], name, number), since_boot - first, event[3], event[4])
-        elif lost := LOST.match(line):
+        elif lost:
             account.lost += number_of(lost[1] or "1", name, number)
-        elif written := WRITTEN.match(line):
+        elif written:
             account.lost += number_of(written[2], name, number) - number_of(written[1], name, number)
         elif line.strip() and not line.startswith("#"):
             other = True
@@ -251,10 +301,10 @@ def write_changes(paper, events, machine, name, end, account):
             return
 
 
-def write_trace(paper, events, machine, name, options, account):
+def write_trace(paper, events, machine, name, options, smaller, account):
     """Writes the trace. What the window leaves out before it is added to the base values."""
     events = after_early(events, machine, name, options.skip, account)
-    for line in header_lines(machine, options.watermarks, account.early):
+    for line in header_lines(machine, options.watermarks, smaller, account.early):
         paper.write(line)
     write_changes(paper, events, machine, name, options.skip + options.seconds, account)
 
@@ -264,14 +314,17 @@ def free_pages(text, name):
     return read_vmstat(text, name)[FREE]
 
 
-def notes(machine, account, options, counted):
+def notes(machine, account, options, smaller, counted):
     """What is to be said of the trace. `counted` is by how much /proc/vmstat changed, None where it isn't known."""
     for zone in machine.left_out:
         known = zone.kind in vmtrace.KINDS or not zone.pages["managed"]
         yield f"zone {zone} left out: {'no managed pages' if known else 'a trace has no such kind'}"
-    if options.live is not None and os.sysconf("SC_PAGE_SIZE") != vmtrace.PAGE_BYTES:
-        yield (f"pages have {os.sysconf('SC_PAGE_SIZE')} bytes here, and {vmtrace.PAGE_BYTES} in a trace: the program "
-               "computes other thresholds")
+    yield from smaller.values()
+    if options.page_size not in (0, vmtrace.PAGE_BYTES):
+        yield (f"pages have {options.page_size} bytes there, and {vmtrace.PAGE_BYTES} in a trace: the thresholds are "
+               "the same, but sizes in bytes aren't")
+    if not any(zone.thresholds for zone in machine.zones):
+        yield f"{machine.name} shows no thresholds, so those of the trace weren't compared"
     if options.watermarks:
         yield from watermark_notes(machine, options.watermarks)
     yield from event_notes(account)
@@ -373,6 +426,9 @@ def parse(arguments):
     source.add_argument("--zoneinfo", metavar="FILE", help="/proc/zoneinfo, or a copy")
     source.add_argument("--live", metavar="SECONDS", type=seconds,
                         help="record this machine: as root, through a buffer of its own in tracefs")
+    parser.add_argument("--page-size", metavar="BYTES", type=vmtrace.page_size, default=0,
+                        help="how large the pages of a copied machine are, as getconf PAGESIZE says there; of this "
+                             "machine it is known")
     parser.add_argument("--events", metavar="FILE",
                         help="the text of the tracing buffer, also as .xz or .gz; - for standard input")
     parser.add_argument("--vmstat", metavar=("BEFORE", "AFTER"), nargs=2,
@@ -389,6 +445,10 @@ def parse(arguments):
     options = parser.parse_args(arguments)
     if options.live is not None and (options.events or options.vmstat):
         parser.error("--live records the events and vmstat by itself")
+    if options.live is not None or options.zoneinfo == ZONEINFO:
+        if options.page_size:
+            parser.error("--page-size goes with a copy: of this machine the size of a page is known")
+        options.page_size = os.sysconf("SC_PAGE_SIZE")
     if options.watermarks and not 1 <= options.watermarks[1] <= vmtrace.MAX_SCALE:
         parser.error(f"--watermarks: from 0 to {vmtrace.MAX_KBYTES}, and from 1 to {vmtrace.MAX_SCALE}")
     return options
@@ -397,10 +457,11 @@ def parse(arguments):
 def make(machine, events, name, counted, options, limits):
     """Writes the trace of a machine and the lines of that name, and the notes."""
     account = Account()
+    smaller = smaller_thresholds(machine, options.page_size)
     paper = Paper(limits, [f"report {kind}" for kind in options.report])
-    write_trace(paper, events_of(events, name, account), machine, name, options, account)
+    write_trace(paper, events_of(events, name, account), machine, name, options, smaller, account)
     paper.end(sys.stdout)
-    for note in notes(machine, account, options, counted):
+    for note in notes(machine, account, options, smaller, counted):
         vmtrace.tell(note)
 
 
@@ -409,7 +470,7 @@ def make_live(options, limits):
         zoneinfo, before, after = record(options.live, recording)
         machine = read_machine(zoneinfo, ZONEINFO)
         counted = free_pages(after, VMSTAT) - free_pages(before, VMSTAT)
-        events = (line.removesuffix("\n") for line in recording)
+        events = map(vmtrace.without_end, recording)
         make(machine, events, "the recording", counted, options, limits)
 
 

@@ -1,4 +1,7 @@
-"""The metrics of a view, as OpenMetrics has them. docs/FORMATS.md lists their names."""
+"""The metrics of a view, in the text form of OpenMetrics or the classic one. docs/FORMATS.md lists their names."""
+from __future__ import annotations
+
+import re
 from dataclasses import dataclass
 
 from figures import ABOVE, BELOW, LAWS
@@ -13,7 +16,10 @@ SOURCES = {"zone": "of a zone, as /proc/zoneinfo shows it", "node": "of a node, 
 
 @dataclass(frozen=True)
 class Family:
-    """A family of metrics: its name, what it is, its unit if it has one, and its numbers with their labels."""
+    """A family of metrics: its name, what it is, its unit if it has one, and its numbers with their labels.
+
+    What only grows is cumulative, a counter. Its numbers have a longer name, and the classic form knows no other.
+    """
 
     name: str
     words: str
@@ -21,22 +27,37 @@ class Family:
     numbers: list[tuple[dict[str, str], int]]
     is_cumulative: bool = False
 
-    def lines(self):
-        yield f"# HELP {self.name} {self.words}"
-        yield f"# TYPE {self.name} {'counter' if self.is_cumulative else 'gauge'}"
-        if self.unit:
-            yield f"# UNIT {self.name} {self.unit}"
+    @property
+    def sample(self):
+        """The name of its numbers, which is that of the family too in the classic form."""
+        return self.name + ("_total" if self.is_cumulative else "")
+
+    def lines(self, is_classic):
+        name = self.sample if is_classic else self.name
+        yield f"# HELP {name} {self.words}"
+        yield f"# TYPE {name} {'counter' if self.is_cumulative else 'gauge'}"
+        if self.unit and not is_classic:
+            yield f"# UNIT {name} {self.unit}"
         for labels, number in self.numbers:
             told = ",".join(f'{label}="{text}"' for label, text in labels.items())
-            yield self.name + ("_total" if self.is_cumulative else "") + (f"{{{told}}}" if told else "") + f" {number}"
+            yield self.sample + (f"{{{told}}}" if told else "") + f" {number}"
 
 
 def openmetrics_of(view):
-    """The lines for a collector of text files."""
+    """The lines in the text form of OpenMetrics."""
+    yield from lines_of(view, False)
+    yield "# EOF"
+
+
+def classic_of(view):
+    """The lines in the classic text form, that of Prometheus' collectors of text files."""
+    return lines_of(view, True)
+
+
+def lines_of(view, is_classic):
     for family in families_of(view):
         if family.numbers:
-            yield from family.lines()
-    yield "# EOF"
+            yield from family.lines(is_classic)
 
 
 def families_of(view):
@@ -58,12 +79,13 @@ def figure_families(kind, item, named):
     """The values of an item, and by how much each can be off."""
     unit = named[0][1].unit
     word, factor = UNITS[unit.name]
-    stem = f"{PREFIX}_{kind}_" + item.removeprefix("nr_").removeprefix(f"{kind}_").removesuffix(f"_{word}")
+    stem = f"{PREFIX}_{kind}_" + re.fullmatch(f"(?:nr_)?(?:{kind}_)?(.*?)(?:_{word})?", item)[1]
     name, uncertainty = f"{stem}_{word}", f"{stem}_uncertainty_{word}"
-    yield Family(name, f"{item} {SOURCES[kind]}. The true number is at most {uncertainty} from it.", word,
-                 [(labels, figure.value * factor) for labels, figure in named], unit.is_cumulative)
-    yield Family(uncertainty, f"By how much {name} can be off at most, {by_laws([figure for _, figure in named])}, "
-                 "without the amounts in transit.", word,
+    value = Family(name, f"{item} {SOURCES[kind]}. The true number is at most {uncertainty} from it.", word,
+                   [(labels, figure.value * factor) for labels, figure in named], unit.is_cumulative)
+    yield value
+    yield Family(uncertainty, f"By how much {value.sample} can be off at most, "
+                 f"{by_laws([figure for _, figure in named])}, without what is in flight.", word,
                  [(labels, figure.off_by * factor) for labels, figure in named])
 
 

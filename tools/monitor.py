@@ -4,14 +4,16 @@
 What /proc/zoneinfo and /proc/vmstat show lacks what each CPU has counted and keeps to itself, up to a threshold. Of
 each counter this prints its value, by how much it can be off, and between which numbers the truth is. Of each
 watermark it says whether the zone's free pages are surely above it, surely below it, or whether that can't be told.
-Each figure names the laws that it rests on (crates/vms_core/README.md). What is assumed stands below them.
+Each figure names the laws that it rests on (crates/vms_near/README.md, that of all nodes crates/vms_core/README.md).
+What is assumed stands below them.
 
 A watermark is compared with the free pages alone. A test of the kernel also adds a reserve, looks for large blocks,
 leaves out pages that the request can't use, and mostly takes the value as it is shown. Nothing is said of the next
 moment.
 
 Without --zoneinfo this machine is read, with all CPUs that are present, online or not. Of a copy the CPUs count that it
-shows, and a threshold is 125 unless --page-size is given, since a normal one depends on the size of a page.
+shows, and a threshold is 125 unless --page-size is given, since a normal one depends on the size of a page. Where that
+makes the figures larger, a line says so.
 
 A text that isn't whole is refused. What /proc/vmstat shows of an item, and what the zones or nodes show of it together,
 are both off by at most the figure that is printed. Where the two are further apart than twice that, they aren't numbers
@@ -19,9 +21,9 @@ of one moment. This machine is then read again, up to ten times, with /proc/vmst
 copies are refused unless --apart allows for it.
 
 The first lines say where free pages are least certain, and which watermarks can't be told. For a collector of text
-files:
+files, as Prometheus' node exporter is one:
 
-  monitor.py --openmetrics > vozhkell.new && mv vozhkell.new vozhkell.prom"""
+  monitor.py --prometheus > vozhkell.new && mv vozhkell.new vozhkell.prom"""
 import interrupts  # first, for what it does
 import json
 import os
@@ -35,14 +37,13 @@ from dataclasses import dataclass
 import vmtrace
 from figures import BELOW, LAWS, UNKNOWN, Figure, Place, View, Watermark
 from items import PAGES, UNITS, check_item, counts_events
-from metrics import openmetrics_of
+from metrics import classic_of, openmetrics_of
 from procinfo import FREE, ZoneInfo, count_cpus, read_vmstat, read_zoneinfo
 from vmtrace import BadInput, called
 
 ZONEINFO, VMSTAT, PRESENT = "/proc/zoneinfo", "/proc/vmstat", "/sys/devices/system/cpu/present"
 MAX_CPUS = 8192
 MAX_APART = 2**48
-PAGE_SIZES = tuple(2**shift for shift in range(12, 21))
 LOOKS, BETWEEN_LOOKS = 10, 0.01
 MARKS = ("min", "low", "high")
 MOST_NAMED = 8
@@ -58,7 +59,7 @@ class Machine:
     zoneinfo: str
     vmstat: str
     info: ZoneInfo
-    readings: list[dict[str, int]]
+    readings: "list[dict[str, int]]"
     cpus: int
     page_bytes: int
 
@@ -73,7 +74,7 @@ class Machine:
 
 
 class Thresholds:
-    """The largest threshold that a CPU may have used last in each zone, over all looks of a call, and its laws.
+    """The largest threshold that a CPU may still use in each zone, over all looks of a call, and its laws.
 
     It is the largest that zoneinfo shows in the zone, or the zone's normal threshold where that is larger: under memory
     pressure a zone that has a drift mark shows smaller ones, while a CPU still keeps what the normal one allowed. The
@@ -87,12 +88,12 @@ class Thresholds:
 
     def take_in(self, zone, machine):
         if self.strict or not zone.thresholds or not machine.page_bytes:
-            self.largest[str(zone)] = vmtrace.MAX_THRESHOLD, ("drift", "peaks")
+            self.largest[str(zone)] = vmtrace.MAX_THRESHOLD, ("values_tell_nearly", "hiding_is_bounded")
         else:
             before, _ = self.of_zone(zone)
             pages = max(zone.pages["managed"], zone.pages["present"])
             normal = vmtrace.normal_threshold(pages, machine.cpus, machine.page_bytes)
-            self.largest[str(zone)] = max(before, normal, *zone.thresholds.values()), ("drift",)
+            self.largest[str(zone)] = max(before, normal, *zone.thresholds.values()), ("values_tell_nearly",)
 
     def of_zone(self, zone):
         return self.largest.get(str(zone), (0, ()))
@@ -129,7 +130,7 @@ def system_of(items, places):
 
 def together(value, parts):
     """The figure of all nodes, which is off by what its parts are together."""
-    laws = [law for law in LAWS if any(law in part.laws for part in parts) and law != "drift"]
+    laws = [law for law in LAWS if any(law in part.laws for part in parts) and law != "values_tell_nearly"]
     return Figure(value, sum(part.off_by for part in parts), ("system_drift", *laws), parts[0].unit)
 
 
@@ -160,8 +161,9 @@ def assumptions(machine, strict):
     """What has to hold of the machine for the figures to be true."""
     zones, cpus = machine.zones, machine.cpus
     yield "The kernel counts as docs/MODEL.md says. Its section 13 has where Linux differs."
-    yield ("Amounts in transit aren't counted: for each fold under way at most 125 pages of a counter in each zone or "
-           "node, for each change under way at most its size and 187 pages.")
+    yield ("What is in flight isn't counted: for each change under way at most its size, and 62 pages more where "
+           "another CPU folds its CPU meanwhile; for each fold under way of another CPU that is online at most 125 "
+           "pages of a counter in each zone or node. In a number of all nodes each fold under way counts so much.")
     yield f"Only these {cpus} CPUs keep something to themselves: any other was folded when it went away."
     if not strict and machine.page_bytes and any(zone.thresholds for zone in zones):
         yield ("No CPU used a threshold last that is larger than all that its zone shows and than the zone's normal "
@@ -173,6 +175,16 @@ def assumptions(machine, strict):
         yield (f"The laws hold of a machine such as this. They are proved for at most {vmtrace.MAX_CPUS[2]} CPUs and "
                f"{vmtrace.MAX_ZONES} zones, of nodes 0 to {vmtrace.MAX_NODE} and of the kinds "
                f"{', '.join(vmtrace.KINDS)}.")
+
+
+def cost_of_no_size(machine, strict):
+    """What it costs that the size of a page isn't told: nothing where no smaller threshold is shown or would count."""
+    shown = [threshold for zone in machine.zones for threshold in zone.thresholds.values()]
+    least, most = min(shown, default=vmtrace.MAX_THRESHOLD), max(shown, default=vmtrace.MAX_THRESHOLD)
+    if strict or machine.page_bytes or least == vmtrace.MAX_THRESHOLD:
+        return ""
+    return (f"No --page-size: each threshold counts as {vmtrace.MAX_THRESHOLD}, and zoneinfo shows "
+            f"{least if least == most else f'{least} to {most}'}. With it bounds are mostly smaller.")
 
 
 def check_machine(machine, chosen):
@@ -231,7 +243,8 @@ def view_of(machine, options, thresholds):
     if machine.readings:
         system = dict(system_of(machine.readings[-1], places))
         free = together(machine.readings[-1][FREE], [place.free for place in places if place.free])
-    return View(machine.cpus, machine.page_bytes, places, system, free, list(assumptions(machine, options.strict)))
+    assumed, cost = list(assumptions(machine, options.strict)), cost_of_no_size(machine, options.strict)
+    return View(machine.cpus, machine.page_bytes, places, system, free, assumed, cost)
 
 
 def look(options, thresholds):
@@ -246,7 +259,10 @@ def look(options, thresholds):
 
 
 def summary_of(view):
-    """The first lines for a reader: where free pages are least certain, and which watermarks aren't kept for sure."""
+    """The first lines for a reader: where free pages are least certain, which watermarks aren't kept for sure, and why.
+
+    The reason stands there only where it is that the size of a page isn't known.
+    """
     for worst, key in (("by share", lambda zone: zone.free.share), ("in pages", lambda zone: zone.free.off_by)):
         zone = max(view.zones, key=key)
         yield f"Worst {worst}: {zone}: {free_words(zone.free, view.page_bytes)}"
@@ -258,6 +274,8 @@ def summary_of(view):
         named = [name for name, side in marks if side == wanted]
         more = f" and {len(named) - MOST_NAMED} more" if len(named) > MOST_NAMED else ""
         yield f"Watermarks {words}: {', '.join(named[:MOST_NAMED]) or 'none'}{more}, of {len(marks)}"
+    if view.cost:
+        yield view.cost
 
 
 def free_words(free, page_bytes):
@@ -332,8 +350,8 @@ def figures_json(figures):
 
 def lines_of(view, options):
     """What is printed of a view; while it is watched with the time."""
-    if options.openmetrics:
-        return openmetrics_of(view)
+    if options.openmetrics or options.prometheus:
+        return openmetrics_of(view) if options.openmetrics else classic_of(view)
     if not options.watch:
         return [json.dumps(json_of(view), indent=2)] if options.json else [*text_of(view), *remarks_of(view)]
     if options.json:
@@ -342,22 +360,17 @@ def lines_of(view, options):
 
 
 def pause(text):
-    if number := vmtrace.seconds(text):
+    number = vmtrace.seconds(text)
+    if number:
         return number
     raise ArgumentTypeError("a pause of no seconds")
-
-
-def page_size(text):
-    if text in map(str, PAGE_SIZES):
-        return int(text)
-    raise ArgumentTypeError(f"'{vmtrace.shown(text)}' is none of {', '.join(map(str, PAGE_SIZES))}")
 
 
 def parse(arguments):
     parser = vmtrace.Parser(__doc__)
     parser.add_argument("--zoneinfo", metavar="FILE", help="a copy of /proc/zoneinfo, - for standard input")
     parser.add_argument("--vmstat", metavar="FILE", help="a copy of /proc/vmstat, for the counters of all nodes")
-    parser.add_argument("--page-size", metavar="BYTES", type=page_size, default=0,
+    parser.add_argument("--page-size", metavar="BYTES", type=vmtrace.page_size, default=0,
                         help="how large the pages of the copied machine are, as getconf PAGESIZE says there")
     parser.add_argument("--apart", metavar="N", type=vmtrace.number_in(0, MAX_APART), default=0,
                         help="how much further apart numbers of the two copies may be than at one moment")
@@ -371,14 +384,16 @@ def parse(arguments):
     parser.add_argument("--watch", metavar="SECONDS", type=pause, help="look again after so many seconds, until Ctrl-C")
     form = parser.add_mutually_exclusive_group()
     form.add_argument("--json", action="store_true", help="print JSON, with --watch a line for each look")
-    form.add_argument("--openmetrics", action="store_true", help="print metrics for a collector of text files")
+    form.add_argument("--prometheus", action="store_true",
+                      help="print metrics in Prometheus' classic text form, for a collector of text files")
+    form.add_argument("--openmetrics", action="store_true", help="print metrics in the text form of OpenMetrics")
     options = parser.parse_args(arguments)
     if (options.vmstat or options.page_size) and not options.zoneinfo:
         parser.error("--vmstat and --page-size go with --zoneinfo: without it this machine is read")
     if options.apart and not options.vmstat:
         parser.error("--apart goes with --vmstat")
-    if options.watch and (options.openmetrics or "-" in (options.zoneinfo, options.vmstat)):
-        parser.error("--watch goes neither with --openmetrics nor with standard input")
+    if options.watch and (options.openmetrics or options.prometheus or "-" in (options.zoneinfo, options.vmstat)):
+        parser.error("--watch goes neither with --prometheus, --openmetrics nor with standard input")
     return options
 
 

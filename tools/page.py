@@ -1,14 +1,15 @@
 #!/usr/bin/env python3
 """Makes one HTML file that answers of a trace: how far off are its counters, when, and does the proved bound hold?
 
-The page opens at the worst moment, of the counter that is furthest off, or of the one that --counter names. It charts
-the plain value minus the true total with the proved bound around it, and the plain value, the snapshot and the true
-total, of each counter of a zone or a node, each percpu counter and each event that changes. The rest is folded away.
-Pointing at a line, a tap or the keyboard choose another moment. The file asks nothing of any other machine.
+The page opens at the worst moment, of the counter that is furthest off, or of the one that --counter names; where
+nothing is off, at what the trace asked. It charts the plain value minus the true total with the proved bound around it,
+and the plain value, the snapshot and the true total, of each counter of a zone or a node, each percpu counter and each
+event that changes. The charts of counters that are off by little are folded, and so is the rest. Pointing at a line, a
+tap or the keyboard choose another moment. The file asks nothing of any other machine.
 
-The numbers are those that the program prints: it replays the trace, and for each line that is read the trace up to it
-with three reports and the sums of events. It is the proved program once ./vozhkell has built it, or the one that
---program names, such as the plain one of bench/replay.rs. The page goes to standard output:
+The numbers are those that the program prints: it replays the trace, and again with three reports and the sums of events
+below each line that is read. It is the proved program, of this release or once ./vozhkell has built it, or the one that
+--program names, such as the plain one of bench/vozhkell.rs. The page goes to standard output:
 
   page.py examples/drift.vmtrace > page.html"""
 import interrupts  # first, for what it does
@@ -18,6 +19,8 @@ import re
 import subprocess
 import sys
 import tempfile
+import threading
+import time
 from contextlib import contextmanager
 from dataclasses import dataclass, field
 from itertools import groupby, zip_longest
@@ -27,11 +30,16 @@ import items
 import vmtrace
 from vmtrace import called
 
-HERE = os.path.dirname(os.path.abspath(__file__))
-PROGRAM = os.path.join(os.path.dirname(HERE), "crates", "vozhkell", "out", "vozhkell")
+HERE = os.path.dirname(os.path.realpath(__file__))
+BUILT = os.path.join(os.path.dirname(HERE), "crates", "vozhkell", "out", "vozhkell")
+INSTALLED = os.path.join(HERE, "..", "..", "..", "bin", "vozhkell")
+PROGRAM = INSTALLED if os.path.exists(INSTALLED) and not os.path.exists(BUILT) else BUILT
 TEMPLATE = os.path.join(HERE, "page.html")
 MOST_LINES = 5_000
 MOST_READINGS = 2_000
+MOST_REPLAYS = 500
+READ_AT_ONCE = 200
+SECONDS = 600
 MOST_PRINTED = 2**28
 MOST_LINE = 2**12
 MOST_EXACT = 2**53
@@ -39,6 +47,8 @@ TEXT = ("ascii", "surrogateescape")
 REPORTS = ("report zoneinfo", "report totals", "report counters")
 EVENTS = ("pgpgin", "pgpgout", "pswpin", "pswpout", "pgfree", "pgactivate", "pgdeactivate", "pgfault")
 QUESTIONS = (*REPORTS, *(f"k evsum {event}" for event in EVENTS))
+BOUNDARIES = ("sync", "offline", "online", "flush", "report")
+SETTERS = ("pressure", "normal", "kswapd", "dead")
 DONE = re.compile(r"done accepted \d+ refused \d+")
 LANE = re.compile(r"c[0-9]{1,20}")
 PRINTED = re.compile(r"line (\d+): (.*)$")
@@ -58,9 +68,9 @@ class Standing:
     Present CPUs are those that are online or dead. What dead ones haven't folded is a part of the whole.
     """
 
-    numbers: dict[str, int] = field(default_factory=dict)
-    unfolded: list[int] = field(default_factory=list)
-    unfolded_by_dead: list[int] = field(default_factory=list)
+    numbers: "dict[str, int]" = field(default_factory=dict)
+    unfolded: "list[int]" = field(default_factory=list)
+    unfolded_by_dead: "list[int]" = field(default_factory=list)
     threshold: int = 0
     present: int = 0
     dead: int = 0
@@ -85,10 +95,10 @@ class Reading:
     Of a percpu counter it has the batch and the count, of an event the sum over the online CPUs.
     """
 
-    places: dict[str, Standing] = field(default_factory=dict)
-    totals: dict[str, int] = field(default_factory=dict)
-    percpu: dict[str, tuple[int, int]] = field(default_factory=dict)
-    events: dict[str, int] = field(default_factory=dict)
+    places: "dict[str, Standing]" = field(default_factory=dict)
+    totals: "dict[str, int]" = field(default_factory=dict)
+    percpu: "dict[str, tuple[int, int]]" = field(default_factory=dict)
+    events: "dict[str, int]" = field(default_factory=dict)
 
     @property
     def any_place(self):
@@ -107,9 +117,9 @@ class Moment:
 
     line: int
     value: int
-    snapshot: int | None
+    snapshot: "int | None"
     total: int
-    bound: int | None = None
+    bound: "int | None" = None
     mark: int = 0
 
     @property
@@ -136,9 +146,9 @@ class Figure:
     title: str
     law: str
     unit: str
-    moments: list[Moment]
-    marks: list[list] = field(default_factory=list)
-    counter: vmtrace.Counter | None = None
+    moments: "list[Moment]"
+    marks: "list[list]" = field(default_factory=list)
+    counter: "vmtrace.Counter | None" = None
 
     def changes(self):
         return len({moment.numbers for moment in self.moments}) > 1
@@ -196,44 +206,106 @@ def lane_of(words):
     return BETWEEN
 
 
-def places_of(lines, header):
-    """The numbers of the lines below which counters are read: `go`, and as many others as may be, the last too."""
+def places_of(lines, header, refused=()):
+    """The numbers of the lines below which counters are read: `go`, and as many others as may be, the last too.
+
+    They come by the replays that read them, and with how many lines there are for each that is read.
+    """
     told = [number for number, line in enumerate(lines[header.lines:], header.lines + 1) if vmtrace.words_of(line)]
+    setters = next_setters(lines, header, refused)
     step = -(-len(told) // MOST_READINGS) or 1
-    return [header.lines, *told[step - 1::step], *told[len(told) - len(told) % step:][-1:]], step
+    while True:
+        places = [header.lines, *told[step - 1::step], *told[len(told) - len(told) % step:][-1:]]
+        batches = batches_of(places, setters)
+        if len(batches) <= MOST_REPLAYS:
+            return batches, step
+        step += -(-step // 4)
 
 
-def output_of(program, lines):
-    """What the program prints of a replay of these lines."""
-    status, printed, errors = replay(program, "".join(line + "\n" for line in lines).encode(*TEXT))
-    if len(printed) > MOST_PRINTED:
-        raise vmtrace.BadInput(f"{called(program)} isn't the program: it prints more than {MOST_PRINTED:,} bytes")
-    if status not in (0, 3):
-        raise vmtrace.BadInput(f"{called(program)} replay ended with status {status}: {last_line(printed or errors)}")
-    if not DONE.fullmatch(last_line(printed)):
-        raise vmtrace.BadInput(f"{called(program)} isn't the program: with the word 'replay' it prints "
-                               f"'{last_line(printed)}' last, where 'done accepted N refused N' is expected")
-    return printed.decode(*TEXT).splitlines()
+def next_setters(lines, header, refused):
+    """The line that sets thresholds next in the same phase, below each line that has one; 0 below the others."""
+    setters, following = {}, 0
+    for number in range(len(lines), header.lines - 1, -1):
+        setters[number] = following
+        words = vmtrace.words_of(lines[number - 1])
+        if words[:1] == ["k"] and words[1:2] and words[1] in SETTERS:
+            following = number
+        elif words[:1] and words[0] in BOUNDARIES and number not in refused:
+            following = 0
+    return setters
 
 
-def replay(program, text):
-    """The status of a replay of the text, and what it wrote: to standard output, up to a limit, and standard error."""
-    with tempfile.TemporaryFile() as trace, tempfile.TemporaryFile() as errors:
-        trace.write(text)
-        trace.seek(0)
-        try:
-            running = subprocess.Popen([os.path.abspath(program), "replay"], stdin=trace, stdout=subprocess.PIPE,
-                                       stderr=errors)
-        except OSError as error:
-            raise vmtrace.BadInput(f"{called(program)}: {error.strerror or error}; ./vozhkell builds the proved "
-                                   "program, and --program names another, such as out/vozhkell of docs/GUIDE.md"
-                                   ) from None
-        with running:
-            printed = running.stdout.read(MOST_PRINTED + 1)
-            if len(printed) > MOST_PRINTED:
-                running.kill()
-        errors.seek(0)
-        return running.returncode, printed, errors.read()
+def batches_of(places, setters):
+    """The places by the replay that reads them.
+
+    A report ends a phase, and then CPUs know more of their thresholds than in the trace. Only a line that sets
+    thresholds in the same phase goes by that: a mark falls sooner. So the places before such a line have a replay of
+    their own, which ends with them.
+    """
+    by_setter = {}
+    for place in places:
+        by_setter.setdefault(setters[place], []).append(place)
+    return [same[begin:begin + READ_AT_ONCE]
+            for same in by_setter.values() for begin in range(0, len(same), READ_AT_ONCE)]
+
+
+@dataclass
+class Program:
+    """The program that replays, and how many seconds all that is done for a page may take."""
+
+    path: str
+    seconds: float
+    began: float = field(default_factory=time.monotonic)
+
+    def __str__(self):
+        return called(self.path)
+
+    @property
+    def left(self):
+        return self.began + self.seconds - time.monotonic()
+
+    def check_time(self):
+        if self.left <= 0:
+            raise vmtrace.BadInput(f"{self}: the replays of the trace have taken {self.seconds:g} seconds; --seconds "
+                                   "allows for more")
+
+    def output(self, lines):
+        """What it prints of a replay of these lines."""
+        status, printed, errors = self.replay("".join(line + "\n" for line in lines).encode(*TEXT))
+        self.check_time()
+        if len(printed) > MOST_PRINTED:
+            raise vmtrace.BadInput(f"{self} isn't the program: it prints more than {MOST_PRINTED:,} bytes")
+        if status not in (0, 3):
+            raise vmtrace.BadInput(f"{self} replay ended with status {status}: {last_line(printed or errors)}")
+        if not DONE.fullmatch(last_line(printed)):
+            raise vmtrace.BadInput(f"{self} isn't the program: with the word 'replay' it prints "
+                                   f"'{last_line(printed)}' last, where 'done accepted N refused N' is expected")
+        return printed.decode(*TEXT).splitlines()
+
+    def replay(self, text):
+        """The status of a replay of the text, and what it wrote: to standard output, up to a limit, and to the other.
+
+        Once no time is left it is killed.
+        """
+        with tempfile.TemporaryFile() as trace, tempfile.TemporaryFile() as errors:
+            trace.write(text)
+            trace.seek(0)
+            try:
+                running = subprocess.Popen([os.path.abspath(self.path), "replay"], stdin=trace, stdout=subprocess.PIPE,
+                                           stderr=errors)
+            except OSError as error:
+                raise vmtrace.BadInput(f"{self}: {error.strerror or error}; ./vozhkell builds the proved program, and "
+                                       "--program names another, such as out/vozhkell of docs/GUIDE.md") from None
+            late = threading.Timer(max(0, self.left), running.kill)
+            late.start()
+            with running:
+                printed = running.stdout.read(MOST_PRINTED + 1)
+                if len(printed) > MOST_PRINTED:
+                    running.kill()
+                running.wait()
+                late.cancel()
+            errors.seek(0)
+            return running.returncode, printed, errors.read()
 
 
 def last_line(printed):
@@ -246,7 +318,7 @@ def printed_by(program):
     try:
         yield
     except (LookupError, ValueError):
-        raise vmtrace.BadInput(f"{called(program)} isn't the program: its answers or its reports aren't those of "
+        raise vmtrace.BadInput(f"{program} isn't the program: its answers or its reports aren't those of "
                                "docs/FORMATS.md") from None
 
 
@@ -254,12 +326,13 @@ def standings_of(report):
     """The zones and nodes of a report on them, by name."""
     places, standing = {}, None
     for line in report:
-        if found := PLACE.match(line):
-            standing = places[f"{found[1]} {found[2] or 'node'}"] = Standing()
-        elif found := NUMBER.match(line):
-            standing.numbers[found[1]] = int(found[2])
-        elif found := CPU.match(line):
-            standing.take_cpu(found[1] is not None, int(found[2]), [int(word) for word in found[3].split()])
+        place, number, cpu = (form.match(line) for form in (PLACE, NUMBER, CPU))
+        if place:
+            standing = places[f"{place[1]} {place[2] or 'node'}"] = Standing()
+        elif number:
+            standing.numbers[number[1]] = int(number[2])
+        elif cpu:
+            standing.take_cpu(cpu[1] is not None, int(cpu[2]), [int(word) for word in cpu[3].split()])
     return places
 
 
@@ -278,20 +351,46 @@ def percpu_of(report):
 
 def answers_of(output):
     """The answers and refusals that the program printed, by line, and what it printed last."""
-    answers = {int(found[1]): found[2] for line in output if (found := PRINTED.match(line))}
+    answers = {int(found[1]): found[2] for found in map(PRINTED.match, output) if found}
     return {number: text for number, text in answers.items() if not text.startswith("report ")}, output[-1]
 
 
-def reading_below(place, lines, program):
-    """What reports say at the end of a replay of the lines up to this one: so no line stands in another phase."""
-    output = output_of(program, [*lines[:place], *QUESTIONS])
-    begins = [output.index(f"line {place + n}: {report}") for n, report in enumerate(REPORTS, 1)]
-    sums = len(output) - 1 - len(EVENTS)
-    zoneinfo, totals, counters = (output[begin + 1:end] for begin, end in zip(begins, [*begins[1:], sums]))
+def readings_below(places, lines, answers, program):
+    """What reports say below each of these lines, by one replay of the lines up to the last of them.
+
+    The lines of the trace are answered as they are without the reports.
+    """
+    asked, numbers, begins, above = [], [], [], 0
+    for place in places:
+        asked += [*lines[above:place], *QUESTIONS]
+        numbers += [*range(above + 1, place + 1), *[0] * len(QUESTIONS)]
+        begins.append(len(asked) - len(QUESTIONS))
+        above = place
+    output = program.output(asked)
+    told = {numbers[line - 1]: text for line, text in answers_of(output)[0].items() if numbers[line - 1]}
+    if told != {line: text for line, text in answers.items() if line <= above}:
+        raise ValueError
+    at = 0
+    for place, below in zip(places, begins):
+        reading, at = reading_of(output, at, below)
+        yield place, reading
+
+
+def reading_of(output, at, below):
+    """What the questions that come after so many lines have read, from there on in the output, and where that ends."""
+    begins = []
+    for n, report in enumerate(REPORTS, below + 1):
+        at = output.index(f"line {n}: {report}", at) + 1
+        begins.append(at)
+    first = f"line {below + len(REPORTS) + 1}: events "
+    while not output[at].startswith(first):
+        at += 1
+    zoneinfo, totals, counters = (output[begin:end] for begin, end in zip(begins, [*(n - 1 for n in begins[1:]), at]))
     events = {}
-    for n, (event, line) in enumerate(zip(EVENTS, output[sums:]), place + len(REPORTS) + 1):
-        events[event] = int(line.removeprefix(f"line {n}: events "))
-    return Reading(standings_of(zoneinfo), totals_of(totals), percpu_of(counters), events)
+    for n, event in enumerate(EVENTS, below + len(REPORTS) + 1):
+        events[event] = int(output[at].replace(f"line {n}: events ", "", 1))
+        at += 1
+    return Reading(standings_of(zoneinfo), totals_of(totals), percpu_of(counters), events), at
 
 
 def counters_of(header):
@@ -409,6 +508,15 @@ def rows_of(shown):
     return [row for row in (BETWEEN, CONTROL) if row in used] + cpus
 
 
+def opening(figures, shown):
+    """The line at which the page opens: the worst moment, or the first answer of a trace in which nothing is off."""
+    if not any(figure.most_off() for figure in figures):
+        for number, _, _, answer in shown:
+            if answer and not is_refused(answer):
+                return number
+    return figures[0].worst()["from"]
+
+
 def machine_of(header, reading):
     """The machine as the first reading has it: its CPUs, each zone's pages and threshold, each percpu counter."""
     zones = []
@@ -420,10 +528,14 @@ def machine_of(header, reading):
 
 
 def page_of(lines, header, name, options):
-    places, step = places_of(lines, header)
-    with printed_by(options.program):
-        answers, done = answers_of(output_of(options.program, lines))
-        readings = {place: reading_below(place, lines, options.program) for place in places}
+    program = Program(options.program, options.seconds)
+    with printed_by(program):
+        answers, done = answers_of(program.output(lines))
+        refused = {line for line, answer in answers.items() if is_refused(answer)}
+        batches, step = places_of(lines, header, refused)
+        readings = {place: reading for batch in batches
+                    for place, reading in readings_below(batch, lines, answers, program)}
+        readings = {place: readings[place] for place in sorted(readings)}
         figures, steady = figures_of(header, readings, name, options.counter)
     for figure in figures:
         if figure.counter:
@@ -436,6 +548,7 @@ def page_of(lines, header, name, options):
         "machine": machine_of(header, readings[header.lines]),
         "step": step,
         "begin": header.lines,
+        "opens": opening(figures, shown),
         "rows": rows_of(shown),
         "lines": shown,
         "figures": [figure.shown() for figure in figures],
@@ -448,7 +561,9 @@ def parse(arguments):
     parser.add_argument("trace", metavar="TRACE", help="the trace, - for standard input")
     parser.add_argument("--counter", help="the counter to answer of first: '0 Normal nr_free_pages', 'counter files'")
     parser.add_argument("--program", metavar="FILE", default=PROGRAM,
-                        help="the program that replays, if not the one that ./vozhkell builds")
+                        help="the program that replays, if not the proved one")
+    parser.add_argument("--seconds", metavar="N", type=vmtrace.seconds, default=SECONDS,
+                        help=f"how many seconds the replays may take together; {SECONDS} without it")
     return parser.parse_args(arguments)
 
 

@@ -3,6 +3,8 @@
 The form of zoneinfo is that of zoneinfo_show_print of mm/vmstat.c in Linux 5.0 to 6.18. A kernel may show further
 fields, items and numbers of a CPU or a zone, of the same forms. A text that isn't whole is refused.
 """
+from __future__ import annotations
+
 import re
 from dataclasses import dataclass, field
 
@@ -21,6 +23,7 @@ VALUE = re.compile(r"([a-z][a-z0-9_]*) (\S+)")
 NUMBERS = {10: re.compile(r"[0-9]{1,20}"), 16: re.compile(r"0x[0-9a-f]{1,16}")}
 RANGE = re.compile(r"([0-9]{1,9})(?:-([0-9]{1,9}))?")
 FIELDS = ("min", "low", "high", "spanned", "present", "managed")
+WITHIN = (("managed", "present"), ("present", "spanned"))
 FREE, THRESHOLD, START = "nr_free_pages", "vm stats threshold", "start_pfn"
 
 
@@ -146,11 +149,17 @@ def read_zone(lines, info):
         zone.has_node_stats = True
         info.nodes[zone.node] = lines.numbers(NUMBERED)
     lines.number(lines.need(FREE_PAGES, "pages free N")[1])
+    first = lines.taken + 1
     zone.pages = lines.numbers(NUMBERED)
     zone.kinds = len(lines.need(PROTECTION, "protection: (N, ..)")[1].split(","))
     for word in FIELDS:
         if word not in zone.pages:
             raise BadInput(f"{lines.name}:{zone.line}: zone {zone} has no '{word}'")
+    for part, whole in WITHIN:
+        if zone.pages[part] > zone.pages[whole]:
+            line = first + list(zone.pages).index(part)
+            raise BadInput(f"{lines.name}:{line}: zone {zone} has {zone.pages[part]} as '{part}', and "
+                           f"{zone.pages[whole]} as '{whole}', which is never less")
     if zone.is_populated:
         read_populated(lines, zone)
 

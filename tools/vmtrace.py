@@ -2,6 +2,8 @@
 
 The judge of a trace is the program. What is read here is what a tool needs to know of one that the program accepts.
 """
+from __future__ import annotations
+
 import argparse
 import gzip
 import lzma
@@ -18,6 +20,7 @@ ZONE_ITEMS = ("nr_free_pages", "nr_zone_inactive_anon", "nr_zone_active_anon", "
 NODE_ITEMS = ("nr_inactive_anon", "nr_active_anon", "nr_inactive_file", "nr_active_file", "nr_unevictable",
               "nr_anon_pages", "nr_file_pages", "nr_dirty")
 PAGE_BYTES = 4096
+PAGE_SIZES = tuple(2**shift for shift in range(12, 21))
 MAX_CPUS = {1: 64, 2: 128}
 MAX_ZONES = 16
 MAX_NODE = 15
@@ -191,7 +194,12 @@ def each_line(name):
         while line := file.readline(MOST_LINE + 1):
             if len(line) > MOST_LINE:
                 raise BadInput(f"{called(name)}: a line is longer than the {MOST_LINE:,} bytes that are read of one")
-            yield line.removesuffix("\n")
+            yield without_end(line)
+
+
+def without_end(line):
+    """The line without its byte 10."""
+    return line[:-1] if line.endswith("\n") else line
 
 
 def within(word, least, most):
@@ -236,6 +244,13 @@ def seconds(text):
         if 0 <= float(text) <= MAX_SECONDS:
             return float(text)
     raise argparse.ArgumentTypeError(f"'{shown(text)}' is no number of seconds from 0 to {MAX_SECONDS}")
+
+
+def page_size(text):
+    """A type of sizes of a page in bytes, for an option."""
+    if text in map(str, PAGE_SIZES):
+        return int(text)
+    raise argparse.ArgumentTypeError(f"'{shown(text)}' is none of {', '.join(map(str, PAGE_SIZES))}")
 
 
 def add_line(header, words):

@@ -153,6 +153,14 @@ class Refusals(unittest.TestCase):
         self.refuses("(`IsSmall`)", "(`IsTiny`)", "specs/Numbers.antt: defines no IsTiny")
         self.refuses("`specs/Numbers.antt` (`IsSmall`)", "`specs/Words.antt` (`IsSmall`)", "Words.antt: no such file")
 
+    def test_folders_of_edits(self):
+        Path("edits/vms_low").mkdir(parents=True)
+        told = "What stands below. The edits of `edits/vms_low/` are refused."
+        Path(README).write_text(PROMISES.replace("What stands below.", told), encoding="utf-8")
+        self.assertEqual(self.said(claims.main, README)[0], 0)
+        self.refuses("What stands below.", told.replace("vms_low", "vms_mid"), "edits/vms_mid/: no such file")
+        self.refuses("What stands below.", told.replace("edits/vms_low", "must-fail"), "must-fail/: no such file")
+
     def test_names_of_a_home(self):
         named = "`least` of `specs/Numbers.antt`"
         self.refuses(named, "`most` of `specs/Numbers.antt`", "specs/Numbers.antt: defines no most")

@@ -45,6 +45,22 @@ class CommandsTest(unittest.TestCase):
                 self.assertEqual(self.check(text), (ran, looked_up, []))
         self.assertFalse((self.top / "out").exists())
 
+    def test_commands_on_the_plain_program(self):
+        program = self.top / "plain"
+        program.write_text("#!/bin/sh\necho plain $1\n")
+        program.chmod(0o755)
+        rows = [
+            ("```sh\n./vozhkell replay\n```\n\n```output 0\nplain replay\n```\n", 1, 0),
+            ("```sh\necho a | ./vozhkell run\n```\n\n```output 0\nplain run\n```\n", 1, 0),
+            ("```sh\n(cd tools && rt check)\n```\n", 0, 1),
+            ("```sh\npython3 tools/tool.py --right\n```\n", 1, 0),
+        ]
+        for text, ran, looked_up in rows:
+            with self.subTest(text):
+                (self.top / "README.md").write_text(text)
+                wrong, *counts = commands.check("README.md", program)
+                self.assertEqual((counts, wrong), ([ran, looked_up], []))
+
     def test_commands_that_are_refused(self):
         rows = [
             ("```sh\npython3 tools/tool.py --wrong\n```\n", "status 1"),

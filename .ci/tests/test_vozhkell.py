@@ -81,35 +81,36 @@ class ScriptTest(unittest.TestCase):
     def test_proves_and_runs(self):
         status, output, errors = self.start("replay", "a b", text="input\n")
         self.assertEqual((status, output), (3, "proved replay a b\ninput\n"))
-        self.assertEqual(errors, f"vozhkell: proving and building {self.out}/vozhkell, which may take some minutes\n")
+        self.assertEqual(errors, f"vozhkell: proving and building {self.out}/vozhkell, which takes about an hour on four "
+                                 "processors where nothing is proved yet\n")
         self.assertEqual(self.called(), self.BUILDS)
         self.assertIn("== vms_mid\nproved\n", (self.out / "vozhkell.log").read_text())
         self.assertEqual(self.start("check", text="x"), (3, "proved check\nx", ""))
         self.assertEqual(self.called(), [])
 
     def test_newer_sources(self):
-        self.start()
+        self.start("check")
         for file in (self.source, self.top / "crates" / "vms_low" / "specs" / "New.antt", self.top / "crates.txt"):
             with self.subTest(file.name):
                 self.called()
                 file.touch()
                 os.utime(file, (time.time() + 1, time.time() + 1))
-                self.assertEqual(self.start()[0], 3)
+                self.assertEqual(self.start("check")[0], 3)
                 self.assertEqual(self.called(), self.BUILDS)
                 self.age(5)
                 (self.out / "vozhkell").touch()
-                self.start()
+                self.start("check")
                 self.assertEqual(self.called(), [])
 
     def test_a_source_that_changes_meanwhile(self):
         self.start(RUN_HOOK="sleep 0.1; touch src/main.rt")
         self.called()
-        self.start()
+        self.start("check")
         self.assertEqual(self.called(), self.BUILDS)
 
     def test_refused(self):
         """Nothing that isn't proved is run, nor what was proved of older sources."""
-        self.start()
+        self.start("check")
         self.source.write_text("fn main() { wrong }\n")
         os.utime(self.source, (time.time() + 1, time.time() + 1))
         for what, settings in (("not proved", {"REFUSES": "1"}), ("not linked", {"LINKED": "2"})):
@@ -120,7 +121,7 @@ class ScriptTest(unittest.TestCase):
                 self.assertTrue(errors.endswith(f"no program was built: {self.out}/vozhkell.log has what rt said\n"))
         self.age()
         self.called()
-        self.assertEqual(self.start()[0], 3)
+        self.assertEqual(self.start("check")[0], 3)
         self.assertEqual(self.called(), self.BUILDS)
 
     def test_no_rt(self):
@@ -130,7 +131,37 @@ class ScriptTest(unittest.TestCase):
         paths = [path for path in self.environment["PATH"].split(":") if not Path(path, "rt").is_file()]
         status, output, errors = self.start("replay", PATH=":".join(paths))
         self.assertEqual((status, output), (125, ""))
-        self.assertIn("rt: command not found", errors)
+        self.assertEqual(errors, "vozhkell: nothing was built: there is no rt on the path. It comes with the Rattle kit: "
+                                 "README.md, 'The proved program'\n")
+        self.assertFalse(self.out.exists())
+        self.assertIn("\n## The proved program\n", (TOP / "README.md").read_text(encoding="utf-8"))
+
+    def test_words_that_ask_for_help(self):
+        """Nothing is proved for them, nor is `rt` needed; a program that stands answers for itself."""
+        helps = [(("--help",), 0), (("-h",), 0), (("--version",), 0), (("--help", "replay"), 0), ((), 1), (("",), 1)]
+
+        def answers():
+            for words, wanted in helps:
+                with self.subTest(words):
+                    status, output, errors = self.start(*words, PATH=os.environ["PATH"])
+                    self.assertEqual((status, errors, self.called()), (wanted, "", []))
+                    self.assertTrue(output.startswith("usage: ./vozhkell COMMAND "), output)
+            return output
+
+        output = answers()
+        self.assertFalse(self.out.exists())
+        told = (TOP / "crates" / "vms_tool" / "src" / "commands.rt").read_text(encoding="utf-8")
+        commands = re.search(r'b"usage: (.*)\\n"', told)[1].split(" | ")
+        self.assertEqual(sorted(re.findall(r"^  (\w+(?: [A-Z]+)*)  ", output, re.M)), sorted(commands))
+        for document in re.findall(r"\S+\.md", output):
+            self.assertTrue((TOP / document).is_file(), document)
+        self.start("check")
+        self.called()
+        for words, _ in helps:
+            self.assertEqual(self.start(*words), (3, f"proved {' '.join(words)}\n", ""))
+        self.source.touch()
+        os.utime(self.source, (time.time() + 1, time.time() + 1))
+        answers()
 
     def test_interrupted(self):
         """A program that a broken build left isn't run."""
@@ -176,6 +207,26 @@ class ScriptTest(unittest.TestCase):
         self.assertEqual(told[0], ("0", "3", "0", "00"))
         self.assertEqual(told[-1][:2], ("3", "3"))
         self.assertIn(("0", "01"), [each[2:] for each in told])
+        self.assertNotIn("to go", shown)
+
+    def test_a_terminal_shows_how_long_the_rest_takes(self):
+        (self.top / "docs").mkdir()
+        (self.top / "docs" / "PERFORMANCE.md").write_text(
+            "| crate | proofs | edits | tests | all |\n|---|---|---|---|---|\n"
+            "| vms_low | 3.0 | - | - | 3.0 |\n| vms_mid | 30.0 | - | - | 30.0 |\n| vozhkell | 300.0 | - | - | 300.0 |\n")
+        self.age()
+        ours, theirs = pty.openpty()
+        started = subprocess.Popen([self.top / "vozhkell", "replay"], stdin=subprocess.DEVNULL, stdout=subprocess.PIPE,
+                                   stderr=theirs, env={**self.environment, "PAUSE": "1.2"})
+        os.close(theirs)
+        self.assertEqual((started.communicate(timeout=60)[0], started.returncode), (b"proved replay\n", 3))
+        shown = os.read(ours, 65536).decode()
+        os.close(ours)
+        told = re.findall(r"\rvozhkell: (\d) of 3 crates done, after \d:\d\d(?:, about (\d+) min to go)? ", shown)
+        self.assertEqual({done for done, left in told if not left}, {"0", "3"})
+        # a second or two for 3 minutes' worth, and 330 to go; then two or three for 33, and 300 to go
+        self.assertIn(told[[done for done, _ in told].index("1")][1], ("2", "3", "4"))
+        self.assertEqual(told[-1], ("3", ""))
 
 
 if __name__ == "__main__":

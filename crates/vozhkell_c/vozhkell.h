@@ -24,7 +24,7 @@
  *   fork of a process with threads.
  *
  * What is proved: each function behind these (vozhkell_c_..) answers as its contract says, whatever other threads do by
- * handles of their own, in memory that it owns. The contracts stand in crates/vozhkell_c/src. This file is C, and not
+ * handles of their own, in memory that it owns. The contracts stand in crates/vozhkell_c/src. vozhkell.h is C, and not
  * proved: its functions test what no contract can, whether a pointer is null and whether a handle is of the counters
  * that are to end it. */
 #ifndef VOZHKELL_H
@@ -124,7 +124,11 @@ typedef struct vozhkell_control {
 } vozhkell_control;
 
 /* What a variable begins with: it holds nothing. */
+#ifdef __cplusplus
+#define VOZHKELL_NONE {}
+#else
 #define VOZHKELL_NONE {0}
+#endif
 
 /* What a test of a watermark answers. */
 typedef struct vozhkell_answer {
@@ -316,22 +320,28 @@ static inline int vozhkell_fold(vozhkell_handle *handle, uint32_t cpu)
 }
 
 /* The global value of a counter, in pages, and 0 where it is negative (zone_page_state). What CPUs haven't folded is
- * missing: at most a threshold for each CPU, 125 pages, and what a call is just moving. VOZHKELL_NO_COUNTER. */
+ * missing. So it is off from the true total at its load by at most what the CPUs may hide and what calls of others are
+ * just moving. A CPU may hide the threshold that stands for it, at most 125 pages, or one that stood before where the
+ * CPU hasn't acknowledged the new one by a fold. A call moves at most the size of its change, and 62 pages more where
+ * another handle folds its CPU meanwhile; a fold of another CPU that is online moves at most 125. VOZHKELL_NO_COUNTER. */
 static inline int vozhkell_value(vozhkell_handle *handle, uint32_t counter, uint64_t *pages)
 {
     return handle && pages ? vozhkell_c_value(&handle->at, counter, pages) : VOZHKELL_NULL;
 }
 
-/* The system-wide value of an item, in pages, and 0 where it is negative (global_zone_page_state).
- * VOZHKELL_NO_ITEM. */
+/* The system-wide value of an item, in pages, and 0 where it is negative (global_zone_page_state). It is off from the
+ * true total at its load by at most what the CPUs may hide of each of the item's counters, together, and what calls of
+ * others are just moving, where a fold moves at most 125 pages of each counter. VOZHKELL_NO_ITEM. */
 static inline int vozhkell_system_value(vozhkell_handle *handle, uint32_t item, uint64_t *pages)
 {
     return handle && pages ? vozhkell_c_system_value(&handle->at, item, pages) : VOZHKELL_NULL;
 }
 
 /* The global value with what the CPUs haven't folded, in pages, and 0 where that is negative
- * (zone_page_state_snapshot). It is the true total where no other call changes or folds the counter meanwhile; else it
- * is within 250 pages for each CPU of the true total, with what calls were moving. VOZHKELL_NO_COUNTER. */
+ * (zone_page_state_snapshot). Less what dead CPUs hide and what calls are just moving it is the true total at its first
+ * load where no differential moves until the CPUs are looked at, and else it is off by as much as these move. In any
+ * case it is off by at most what a CPU may hide for each CPU that is online, at most 125 pages, beyond what
+ * vozhkell_value is off by. VOZHKELL_NO_COUNTER. */
 static inline int vozhkell_snapshot(vozhkell_handle *handle, uint32_t counter, uint64_t *pages)
 {
     return handle && pages ? vozhkell_c_snapshot(&handle->at, counter, pages) : VOZHKELL_NULL;
@@ -339,8 +349,9 @@ static inline int vozhkell_snapshot(vozhkell_handle *handle, uint32_t counter, u
 
 /* Tests whether a zone has more free pages than a watermark asks for, for a request that may use the zones of its node
  * up to the zone index `most` (zone_watermark_ok_safe, order 0). Without a snapshot, whatever the answer is, the free
- * pages that it tells are off by at most the zone's slack and what calls were moving; the slack is low - min where the
- * zone has no drift mark, else the mark less high. VOZHKELL_NO_MARK, VOZHKELL_NO_ZONE, VOZHKELL_NO_ZONE_INDEX. */
+ * pages that it tells are off by no more than vozhkell_value; what the CPUs may hide is at most the zone's slack, which
+ * is low - min where the zone has no drift mark, else the mark less high. With one they are off by no more than
+ * vozhkell_snapshot. VOZHKELL_NO_MARK, VOZHKELL_NO_ZONE, VOZHKELL_NO_ZONE_INDEX. */
 static inline int vozhkell_watermark_ok(vozhkell_handle *handle, uint32_t zone, enum vozhkell_mark mark, uint32_t most,
                                         vozhkell_answer *answer)
 {
@@ -359,7 +370,8 @@ static inline int vozhkell_zone_ok(vozhkell_handle *handle, uint32_t zone, enum 
 }
 
 /* Tests whether a node is balanced for an order (pgdat_balanced): its zones up to the zone index `most` are tested in
- * order by their high watermark, up to the first that passes. VOZHKELL_NO_NODE, VOZHKELL_NO_ORDER,
+ * order by their high watermark, up to the first that passes. What is true of the free pages of the zone that it names,
+ * and after a no of each zone, is as of vozhkell_watermark_ok. VOZHKELL_NO_NODE, VOZHKELL_NO_ORDER,
  * VOZHKELL_NO_ZONE_INDEX. */
 static inline int vozhkell_balanced(vozhkell_handle *handle, uint32_t node, uint32_t order, uint32_t most,
                                     vozhkell_balance *answer)
@@ -381,8 +393,8 @@ static inline int vozhkell_events(vozhkell_handle *handle, uint32_t event, uint6
     return handle && times ? vozhkell_c_events(&handle->at, event, times) : VOZHKELL_NULL;
 }
 
-/* The shared part of a percpu counter (percpu_counter_read): the true total, less at most a batch for each CPU and what
- * calls were moving. Percpu counters have the numbers from 0 in the order in which the header declares them.
+/* The shared part of a percpu counter (percpu_counter_read). It is off from the true total at its load by at most a
+ * batch for each CPU that is present. Percpu counters have the numbers from 0 in the order in which the header declares them.
  * VOZHKELL_NO_PERCPU. */
 static inline int vozhkell_percpu_read(vozhkell_handle *handle, uint32_t counter, int64_t *value)
 {

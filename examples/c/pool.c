@@ -5,14 +5,21 @@
  * small number for each CPU, and its share moves on only past a threshold: here 6 pages, so that a plain read of the
  * free pages is off by 24 at most.
  *
- * Build: cd crates/vozhkell_c && rt lib, and then, at the top of the repository (KIT is the Rattle kit's folder):
+ * Build, as C or as C++, where a release of Vozhkell is installed:
+ *   cc pool.c $(pkg-config --cflags --libs vozhkell) -o pool
+ * Without one: cd crates/vozhkell_c && rt lib, and then, at the top of the repository (KIT is the Rattle kit's folder):
  *   cc -std=c11 -D_POSIX_C_SOURCE=200809L -pthread -I crates/vozhkell_c examples/c/pool.c \
  *      crates/vozhkell_c/out/libvozhkell_c.a KIT/c/liblibc_c.a -o pool
  * Status 0: the counters and the pool have the same number of free pages at the end. */
 #include <pthread.h>
-#include <stdatomic.h>
 #include <stdio.h>
 #include <stdlib.h>
+#ifdef __cplusplus
+#include <atomic>
+using std::atomic_bool;
+#else
+#include <stdatomic.h>
+#endif
 
 #include "vozhkell.h"
 
@@ -33,7 +40,7 @@ static struct {
     pthread_mutex_t lock;
     int free[PAGES];
     int count;
-} pool = {.lock = PTHREAD_MUTEX_INITIALIZER};
+} pool = {PTHREAD_MUTEX_INITIALIZER, {0}, 0};
 
 static uint32_t zone, free_pages;
 
@@ -111,7 +118,7 @@ static void give(struct cpu *cpu)
 /* A CPU: it takes a little more often than it gives, so that the pool runs low. */
 static void *run_cpu(void *of)
 {
-    struct cpu *cpu = of;
+    struct cpu *cpu = (struct cpu *)of;
     for (int round = 0; round < ROUNDS; round++) {
         cpu->random = cpu->random * 1103515245u + 12345u;
         if ((cpu->random >> 16) % 100 < 55)
@@ -129,7 +136,7 @@ static void *run_cpu(void *of)
 /* The reclaimer owns no CPU: by the control handle it folds all of them, so that plain reads are exact for a moment. */
 static void *run_reclaimer(void *of)
 {
-    vozhkell_control *control = of;
+    vozhkell_control *control = (vozhkell_control *)of;
     static long wakes;
     pthread_mutex_lock(&reclaim_lock);
     for (;;) {

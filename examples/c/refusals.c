@@ -269,6 +269,13 @@ static void refuses_numbers(vozhkell *counters, vozhkell_handle *handle, vozhkel
             EXPECT(vozhkell_kswapd_turn(control, NODE, 0, wrong[n], &balance), VOZHKELL_NO_ZONE_INDEX);
         }
     }
+    /* The first number that is too large. */
+    EXPECT(vozhkell_zone_ok(handle, NORMAL, VOZHKELL_MIN, 11, 2, &order), VOZHKELL_NO_ORDER);
+    EXPECT(vozhkell_zone_ok(handle, NORMAL, VOZHKELL_MIN, 10, 4, &order), VOZHKELL_NO_ZONE_INDEX);
+    EXPECT(vozhkell_balanced(handle, NODE, 11, 2, &balance), VOZHKELL_NO_ORDER);
+    EXPECT(vozhkell_balanced(handle, NODE, 10, 4, &balance), VOZHKELL_NO_ZONE_INDEX);
+    EXPECT(vozhkell_kswapd_turn(control, NODE, 11, 2, &balance), VOZHKELL_NO_ORDER);
+    EXPECT(vozhkell_kswapd_turn(control, NODE, 10, 4, &balance), VOZHKELL_NO_ZONE_INDEX);
     EXPECT(vozhkell_count_event(handle, 0, (UINT64_C(1) << 48) + 1), VOZHKELL_TOO_MUCH);
     EXPECT(vozhkell_count_event(handle, 0, UINT64_MAX), VOZHKELL_TOO_MUCH);
     EXPECT(vozhkell_try_percpu_add(handle, FILES, INT64_MIN), VOZHKELL_TOO_MUCH);

@@ -1,4 +1,7 @@
-"""from_kernel.py: texts of the kernel on one side, lines of a trace, worked out by hand, on the other."""
+"""from_kernel.py: texts of the kernel on one side, lines of a trace, worked out by hand, on the other.
+
+On 2 CPUs a zone of less than 32,768 pages of 4 KiB has the threshold 2 * 2 * 1 = 4.
+"""
 import gzip
 import lzma
 import os
@@ -31,12 +34,12 @@ ZONEINFO = """Node 0, zone      DMA
               count:    5
               high:     6
               batch:    7
-  vm stats threshold: 6
+  vm stats threshold: 4
     cpu: 1
               count:    5
               high:     6
               batch:    7
-  vm stats threshold: 6
+  vm stats threshold: 4
   node_unreclaimable:  0
   start_pfn:           1
 Node 0, zone   Normal
@@ -52,9 +55,9 @@ Node 0, zone   Normal
       nr_mlock     4
   pagesets
     cpu: 0
-  vm stats threshold: 6
+  vm stats threshold: 4
     cpu: 1
-  vm stats threshold: 6
+  vm stats threshold: 4
   start_pfn:           4096
 Node 0, zone  Movable
   pages free     0
@@ -162,6 +165,99 @@ class FromKernelTest(ToolTest):
             with self.subTest(last):
                 header = self.make("", zoneinfo=ZONEINFO.replace("cpu: 1", f"cpu: {last}"))[0]
                 self.assertTrue(header.startswith(f"vmtrace {version}\ncpus {last + 1}\n"))
+
+    def machine(self, cpus=64, dma=8192, normal=524288, shown=(14, 84), present=None):
+        """zoneinfo of a machine, with the managed pages of two zones and the thresholds that they show."""
+        def sets(threshold):
+            told = "" if threshold is None else f"\n  vm stats threshold: {threshold}"
+            return "".join(f"\n    cpu: {cpu}\n              count:    5{told}" for cpu in range(cpus))
+
+        def zone(kind, managed, threshold, stats="", first=1):
+            return (f"Node 0, zone {kind:>8}\n{stats}  pages free     9\n        min      1\n"
+                    "        low      2\n"
+                    f"        high     3\n        spanned  {present or managed}\n"
+                    f"        present  {present or managed}\n"
+                    f"        managed  {managed}\n        protection: (0, 0)\n      nr_free_pages 9\n"
+                    f"  pagesets{sets(threshold)}\n  start_pfn:           {first}\n")
+
+        return (zone("DMA", dma, shown[0], "  per-node stats\n      nr_dirty     13\n")
+                + zone("Normal", normal, shown[1], first=2**30))
+
+    def test_thresholds(self):
+        """On 64 CPUs they are 14 times one more than the bits of the managed bytes / 2^27, and at most 125.
+
+        8,192 and 524,288 pages are 0 and 16 of these pieces with pages of 4 KiB, 1 and 64 with 16 KiB, 4 and 256 with
+        64 KiB: 14 and 84, 28 and 112, 56 and 125.
+        """
+        small = "bound of the trace would be too small"
+        told = "zoneinfo:1: zone 0 DMA shows a threshold of"
+        page = {size: ("--page-size", str(size << 10)) for size in (4, 16, 64)}
+        rows = [
+            ("pages of 4 KiB", {}, (), None),
+            ("pages of 4 KiB, as is told", {}, page[4], None),
+            ("pages of 64 KiB", {"shown": (56, 125)}, (), f"{told} 56, and in the trace it is 14: a {small}"),
+            ("pages of 64 KiB, as is told", {"shown": (56, 125)}, page[64], f"{told} 56, and in the trace it is 14"),
+            ("pages of 64 KiB, in one zone", {"shown": (14, 125)}, (),
+             "zone 0 Normal shows a threshold of 125, and in the trace it is 84"),
+            ("pages of 64 KiB, under memory pressure", {"shown": (3, 3)}, page[64],
+             "zoneinfo:1: zone 0 DMA, with pages of 65536 bytes, has a threshold of 56, and in the trace it is 14"),
+            ("pages of 64 KiB, and what 4 KiB have", {}, page[64], "has a threshold of 56, and in the trace it is 14"),
+            ("pages of 16 KiB", {"shown": (28, 112)}, (), f"{told} 28, and in the trace it is 14: a {small}"),
+            ("pages of 16 KiB, under memory pressure", {"shown": (1, 1)}, page[16], "has a threshold of 28"),
+            ("pages of a size that isn't told, under memory pressure", {"shown": (3, 84)}, (),
+             f"{told} 3, and 14 is that of pages of 4096 bytes: say with --page-size how large its pages are"),
+            ("managed pages that were taken away", {"shown": (14, 98)}, page[4],
+             "zone 0 Normal shows a threshold of 98, and in the trace it is 84"),
+            ("the same, under memory pressure", {"shown": (14, 5), "present": 2**21}, page[4],
+             "zone 0 Normal shows a threshold of 5, and may have had one of 112, and in the trace it is 84"),
+            ("more present pages, and no pressure", {"present": 2**21}, page[4], None),
+            ("one CPU", {"cpus": 1, "shown": (None, None)}, (), None),
+            ("one CPU, pages of 64 KiB", {"cpus": 1, "shown": (None, None)}, page[64], "has a threshold of 8"),
+        ]
+        for what, machine, options, message in rows:
+            words = ["--zoneinfo", self.file("zoneinfo", self.machine(**machine)), *options]
+            with self.subTest(what):
+                if message:
+                    self.fails(message, *words)
+                    self.assertEqual(self.call(*words)[2].count("\n"), 1)
+                    continue
+                status, output, errors = self.call(*words)
+                self.assertEqual((status, "#" in output, "the machine showed" in errors), (0, False, False), errors)
+                self.assertEqual("shows no thresholds, so those of the trace" in errors, machine.get("cpus") == 1)
+
+    def test_smaller_thresholds(self):
+        said = ("zone 0 Normal: the machine showed a threshold of 5; it is 84 in the trace, so bounds of it hold, and "
+                "are wider than that machine's\n")
+        status, output, errors = self.call("--zoneinfo", self.file("zoneinfo", self.machine(shown=(14, 5))),
+                                           "--page-size", "4096")
+        self.assertEqual((status, errors), (0, f"from_kernel: {said}"))
+        self.assertIn(f"zone 0 DMA 8192 1 2 3\n# {said}zone 0 Normal 524288 1 2 3\n", output)
+
+    def test_larger_pages_and_the_same_thresholds(self):
+        _, _, errors = self.make("", "--page-size", "16384")
+        self.assertIn("pages have 16384 bytes there, and 4096 in a trace: the thresholds are the same", errors)
+
+    def test_a_zone_that_is_left_out(self):
+        """A counter of a node has the largest threshold of all its zones."""
+        text = self.machine(shown=(14, 84)).replace("zone   Normal", "zone  HighMem")
+        self.fails("zoneinfo:207: node 0, by its zone 0 HighMem, has a threshold of 84, and in the trace it is 14",
+                   "--zoneinfo", self.file("zoneinfo", text))
+
+    def test_this_machine(self):
+        """The size of its pages isn't told, but asked."""
+        text = self.machine(shown=(3, 3))
+        vmstat = "nr_free_pages 18\n"
+        rows = [(4096, "zone 0 DMA: the machine showed a threshold of 3; it is 14 in the trace", 0),
+                (65536, "/proc/zoneinfo:1: zone 0 DMA, with pages of 65536 bytes, has a threshold of 56", 1)]
+        for size, message, status in rows:
+            with (self.subTest(size), mock.patch("os.sysconf", return_value=size),
+                  mock.patch("vmtrace.text_of", return_value=text),
+                  mock.patch("from_kernel.record", return_value=(text, vmstat, vmstat))):
+                for words in (["--live", "1"], ["--zoneinfo", "/proc/zoneinfo"]):
+                    found, _, errors = self.call(*words)
+                    self.assertEqual((found, message in errors), (status, True), errors)
+        for words in (["--live", "1"], ["--zoneinfo", "/proc/zoneinfo"]):
+            self.fails("--page-size goes with a copy", *words, "--page-size", "4096", status=2)
 
     def test_window(self):
         events = "".join(event(order=n, seconds=10 + n / 10) for n in range(8))
@@ -272,7 +368,8 @@ class FromKernelTest(ToolTest):
             ("zoneinfo: 0 node nr_dirty begins with 281474976710657",
              ZONEINFO.replace("nr_dirty     13", f"nr_dirty {2**48 + 1}")),
             ("zoneinfo:1: zone 0 DMA has 1099511627777 as 'managed', and in a trace at most 1099511627776",
-             ZONEINFO.replace("managed  3840", f"managed  {2**40 + 1}")),
+             ZONEINFO.replace("managed  3840", f"managed  {2**40 + 1}").replace("present  3998", f"present  {2**41}")
+             .replace("spanned  4095", f"spanned  {2**41}")),
             ("zoneinfo:30: zone 0 Normal has 1099511627777 as 'high'",
              ZONEINFO.replace("high     30", f"high     {2**40 + 1}")),
             ("zoneinfo: CPU 128 is online", ZONEINFO.replace("cpu: 1", "cpu: 128")),

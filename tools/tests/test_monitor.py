@@ -43,7 +43,8 @@ def zone(kind="Normal", free=1000, managed=262144, thresholds=(20, 20), marks=(1
     per_node = f"  per-node stats\n{stats}" if stats else ""
     return (f"Node {node}, zone {kind:>8}\n{per_node}  pages free     {free}\n        boost    0\n"
             "        min      {}\n        low      {}\n        high     {}\n".format(*marks)
-            + f"        spanned  {managed}\n        present  {present or managed}\n        managed  {managed}\n"
+            + f"        spanned  {present or managed}\n        present  {present or managed}\n"
+            f"        managed  {managed}\n"
             f"        protection: ({', '.join(['0'] * kinds)})\n"
             f"      nr_free_pages {free}\n      nr_mlock     7\n      numa_hit     5\n"
             f"  pagesets\n{cpus}  node_unreclaimable:  0\n  start_pfn:           4096\n")
@@ -68,19 +69,19 @@ Watermarks that can't be told: 0 DMA min, 0 DMA low, of 6
 Watermarks that free pages are surely below: none, of 6
 """
 TEXT = SUMMARY + """Node 0, zone DMA: each of 2 CPUs may keep 4 pages of a counter to itself
-  min           3005  free pages: can't be told, by drift
-  low           3000  free pages: can't be told, by drift
-  high          2990  free pages: surely above, by drift
-  nr_free_pages 3000  off by at most 8: 2992 to 3008, by drift
-  nr_mlock         7  off by at most 8: 0 to 15, by drift
+  min           3005  free pages: can't be told, by values_tell_nearly
+  low           3000  free pages: can't be told, by values_tell_nearly
+  high          2990  free pages: surely above, by values_tell_nearly
+  nr_free_pages 3000  off by at most 8: 2992 to 3008, by values_tell_nearly
+  nr_mlock         7  off by at most 8: 0 to 15, by values_tell_nearly
 Node 0, zone Normal: each of 2 CPUs may keep 20 pages of a counter to itself
-  min            100  free pages: surely above, by drift
-  low            125  free pages: surely above, by drift
-  high           150  free pages: surely above, by drift
-  nr_free_pages 1000  off by at most 40: 960 to 1040, by drift
-  nr_mlock         7  off by at most 40: 0 to 47, by drift
+  min            100  free pages: surely above, by values_tell_nearly
+  low            125  free pages: surely above, by values_tell_nearly
+  high           150  free pages: surely above, by values_tell_nearly
+  nr_free_pages 1000  off by at most 40: 960 to 1040, by values_tell_nearly
+  nr_mlock         7  off by at most 40: 0 to 47, by values_tell_nearly
 Node 0, all zones: each of 2 CPUs may keep 20 pages of a counter to itself
-  nr_dirty 13  off by at most 40: 0 to 53, by drift
+  nr_dirty 13  off by at most 40: 0 to 53, by values_tell_nearly
 All nodes
   nr_free_pages 4000  off by at most 48: 3952 to 4048, by system_drift
   nr_mlock        14  off by at most 48: 0 to 62, by system_drift
@@ -104,8 +105,8 @@ vozhkell_zone_free_uncertainty_pages from it.
 # UNIT vozhkell_zone_free_pages pages
 vozhkell_zone_free_pages{node="0",zone="DMA"} 3000
 vozhkell_zone_free_pages{node="0",zone="Normal"} 1000
-# HELP vozhkell_zone_free_uncertainty_pages By how much vozhkell_zone_free_pages can be off at most, by drift, \
-without the amounts in transit.
+# HELP vozhkell_zone_free_uncertainty_pages By how much vozhkell_zone_free_pages can be off at most, by \
+values_tell_nearly, without what is in flight.
 # TYPE vozhkell_zone_free_uncertainty_pages gauge
 # UNIT vozhkell_zone_free_uncertainty_pages pages
 vozhkell_zone_free_uncertainty_pages{node="0",zone="DMA"} 8
@@ -146,7 +147,7 @@ class MonitorTest(ToolTest):
         self.tells_help()
 
     def test_bounds(self):
-        both, strict = ["drift"], ["drift", "peaks"]
+        both, strict = ["values_tell_nearly"], ["values_tell_nearly", "hiding_is_bounded"]
         rows = [
             ("the normal threshold", (20, 20), [], 40, both),
             ("under memory pressure CPUs keep what they had", (12, 12), [], 40, both),
@@ -168,7 +169,7 @@ class MonitorTest(ToolTest):
                 self.assertEqual(found["nodes"][0]["counters"]["nr_dirty"]["off_by"], off_by)
                 self.assertEqual(found["all_nodes"]["nr_free_pages"]["off_by"], off_by)
                 self.assertEqual(found["all_nodes"]["nr_free_pages"]["laws"], ["system_drift", *laws[1:]])
-                self.assertEqual(list(found["laws"]), ["drift", "system_drift", *laws[1:]])
+                self.assertEqual(list(found["laws"]), ["values_tell_nearly", "system_drift", *laws[1:]])
 
     def test_normal_thresholds(self):
         """They go by the bytes of the pages managed or present, and are 125 where the size of a page isn't known."""
@@ -178,7 +179,6 @@ class MonitorTest(ToolTest):
             ("pages of 64 KiB", {}, ["--page-size", "65536"], 36),
             ("pages of a size that isn't known", {}, [], 125),
             ("managed pages that were taken away", {"managed": 1000, "present": 262144}, ["--page-size", "4096"], 20),
-            ("more managed than present ones", {"managed": 262144, "present": 1000}, ["--page-size", "4096"], 20),
             ("whatever is known", {}, ["--page-size", "4096", "--strict"], 125),
         ]
         for what, pages, options, threshold in rows:
@@ -192,7 +192,7 @@ class MonitorTest(ToolTest):
         for free, side in rows:
             with self.subTest(free):
                 found = self.look(zone(free=free, marks=(100, 100, 2**40)))["zones"][0]["watermarks"]
-                self.assertEqual(found["low"], {"pages": 100, "free_pages": side, "laws": ["drift"]})
+                self.assertEqual(found["low"], {"pages": 100, "free_pages": side, "laws": ["values_tell_nearly"]})
                 self.assertEqual(found["high"]["free_pages"], "surely below")
 
     def test_sums(self):
@@ -251,8 +251,8 @@ class MonitorTest(ToolTest):
                          [("nr_kernel_stack", "KiB", False), ("nr_dirtied", "pages", True),
                           ("nr_file_hugepages", "huge pages", False)])
         _, output, _ = self.call("--zoneinfo", "zoneinfo", *PAGE, *words)
-        self.assertIn("  nr_kernel_stack   1928  off by at most 40 KiB: 1888 to 1968, by drift\n", output)
-        self.assertIn("  nr_file_hugepages    3  off by at most 40 huge pages: 0 to 43, by drift\n", output)
+        self.assertIn("  nr_kernel_stack   1928  off by at most 40 KiB: 1888 to 1968, by values_tell_nearly\n", output)
+        self.assertIn("  nr_file_hugepages    3  off by at most 40 huge pages: 0 to 43, by values_tell_nearly\n", output)
         _, families = self.metrics(*words)
         self.assertEqual(families["vozhkell_node_kernel_stack_bytes"],
                          'vozhkell_node_kernel_stack_bytes{node="0"} 1974272\n')
@@ -281,6 +281,22 @@ class MonitorTest(ToolTest):
                 status, output, errors = self.call("--zoneinfo", self.file("zoneinfo", zoneinfo), *options)
                 self.assertEqual((status, errors), (0, ""))
                 self.assertIn(wanted, output)
+
+    def test_the_cost_of_no_page_size(self):
+        rows = [
+            ("no size", SMALL, [], "No --page-size: each threshold counts as 125, and zoneinfo shows 4 to 20. With it "
+                                   "bounds are mostly smaller.\nNode 0, zone DMA:"),
+            ("one threshold", zone(), [], " and zoneinfo shows 20. "),
+            ("a size", SMALL, PAGE, None),
+            ("thresholds that were asked for", SMALL, ["--strict"], None),
+            ("no smaller threshold", zone(thresholds=(125, 125)), [], None),
+            ("no threshold shown", zone(thresholds=(None, None)), [], None),
+        ]
+        for what, zoneinfo, options, wanted in rows:
+            with self.subTest(what):
+                status, output, errors = self.call("--zoneinfo", self.file("zoneinfo", zoneinfo), *options)
+                self.assertEqual((status, errors, "--page-size" in output), (0, "", wanted is not None))
+                self.assertIn(wanted or "", output)
 
     def test_all_items(self):
         found = self.look(SMALL, "--all", vmstat=VMSTAT)
@@ -339,7 +355,7 @@ class MonitorTest(ToolTest):
 
         larger, size = "No CPU used a threshold last that is larger", "a machine such as this"
         self.assertIn("Only these 2 CPUs", assumed())
-        self.assertIn("in transit aren't counted", assumed())
+        self.assertIn("What is in flight isn't counted", assumed())
         self.assertIn(larger, assumed())
         self.assertIn("for these 2 CPUs, for pages of 4096 bytes, and for the larger of the zone's managed", assumed())
         self.assertNotIn(larger, assumed("--strict"))
@@ -351,17 +367,19 @@ class MonitorTest(ToolTest):
         self.assertIn(size, assumed(kind="HighMem"))
 
     def test_laws_are_those_of_the_documents(self):
-        promises = (TOP / "crates" / "vms_core" / "README.md").read_text(encoding="utf-8")
-        fields = re.findall(r"By .*?`specs/Laws\.antt`\s\((.*?)\)", promises, re.S)
-        self.assertLessEqual(set(figures.LAWS), set(re.findall(r"\w+", " ".join(fields))))
+        core, near = ((TOP / "crates" / crate / "README.md").read_text(encoding="utf-8")
+                      for crate in ("vms_core", "vms_near"))
+        promised = re.findall(r"By .*?`specs/Laws\.antt`\s\((.*?)\)", core, re.S) + re.findall(r"By ([^;.]*)", near)
+        self.assertLessEqual(set(figures.LAWS), set(re.findall(r"\w+", " ".join(promised))))
 
     def test_text(self):
         words = ["--zoneinfo", self.file("zoneinfo", SMALL), "--vmstat", self.file("vmstat", VMSTAT), *PAGE]
         status, output, _ = self.call(*words)
         self.assertEqual(status, 0)
         self.assertTrue(output.startswith(TEXT), output)
-        self.assertNotIn("  peaks: ", output)
-        self.assertIn("  peaks: no CPU uses a threshold of more than 125 pages\n", self.call(*words, "--strict")[1])
+        self.assertNotIn("  hiding_is_bounded: ", output)
+        self.assertIn("  hiding_is_bounded: a CPU may hide at most 125 pages of a counter\n",
+                      self.call(*words, "--strict")[1])
 
     def metrics(self, *options):
         """What the tool prints for a collector, and its samples by family."""
@@ -388,20 +406,53 @@ class MonitorTest(ToolTest):
         for labels, (above, below) in sides.items():
             self.assertIn(f"vozhkell_zone_free_surely_above{{{labels}}} {above}\n", output)
             self.assertIn(f"vozhkell_zone_free_surely_below{{{labels}}} {below}\n", output)
-        self.assertIn("by drift and peaks,", self.metrics("--strict")[0])
+        self.assertIn("by values_tell_nearly and hiding_is_bounded,", self.metrics("--strict")[0])
+
+    def classic(self, *options):
+        """What the tool prints in the classic form."""
+        status, output, errors = self.call("--zoneinfo", self.file("zoneinfo", SMALL), *PAGE,
+                                           "--vmstat", self.file("vmstat", VMSTAT), "--prometheus", *options)
+        self.assertEqual((status, errors), (0, ""))
+        return output
+
+    def test_classic_metrics(self):
+        """The numbers are those of OpenMetrics. Each family has the name of its numbers, and a type by it."""
+        for options in ([], ["--strict"], ["--all"]):
+            output = self.classic(*options)
+            self.assertEqual([line for line in output.splitlines() if not line.startswith("#")],
+                             [line for line in self.metrics(*options)[0].splitlines() if not line.startswith("#")])
+            found = re.findall(r"# HELP (\w+) .*\.\n# TYPE \1 (gauge|counter)\n((?:\1(?:\{.*\})? \d+\n)+)", output)
+            self.assertEqual("".join(samples for _, _, samples in found),
+                             "".join(line for line in output.splitlines(True) if not line.startswith("#")))
+            self.assertEqual(output.count("#"), 2 * len(found))
+            self.assertEqual([name for name, kind, _ in found if kind == "counter"],
+                             [name for name, _, _ in found if name.endswith("_total")])
+        self.assertIn("""# HELP vozhkell_node_dirtied_pages_total nr_dirtied of a node, as /proc/zoneinfo shows it. \
+The true number is at most vozhkell_node_dirtied_uncertainty_pages from it.
+# TYPE vozhkell_node_dirtied_pages_total counter
+vozhkell_node_dirtied_pages_total{node="0"} 90
+# HELP vozhkell_node_dirtied_uncertainty_pages By how much vozhkell_node_dirtied_pages_total can be off at most, by \
+values_tell_nearly, without what is in flight.
+# TYPE vozhkell_node_dirtied_uncertainty_pages gauge
+vozhkell_node_dirtied_uncertainty_pages{node="0"} 40
+""", output)
 
     def test_metrics_are_what_promtool_takes(self):
+        """It reads the classic form, in which what OpenMetrics has for counters has no type."""
         if not shutil.which("promtool"):
             self.skipTest("promtool isn't installed")
-        for options in ([], ["--strict"], ["--item", "nr_dirty"]):
-            done = subprocess.run(["promtool", "check", "metrics"], input=self.metrics(*options)[0], text=True,
-                                  capture_output=True)
+        standing = ([], ["--strict"], ["--item", "nr_dirty"])
+        texts = [self.metrics(*options)[0] for options in standing]
+        for text in texts + [self.classic(*options) for options in (*standing, ["--all"])]:
+            done = subprocess.run(["promtool", "check", "metrics"], input=text, text=True, capture_output=True)
             self.assertEqual((done.returncode, done.stdout + done.stderr), (0, ""))
 
     def test_alerts_name_metrics_that_are_printed(self):
         rules = (TOOLS / "alerts.yml").read_text(encoding="utf-8")
         names = set(re.findall(r"\bvozhkell_\w+", rules))
         self.assertEqual(len(names), 2)
+        old, = re.findall(r"time\(\) - (\w+\{.*\}) > 300", rules)
+        self.assertIn(f"or absent({old})\n", rules)
         for name in names:
             self.assertIn(f"\n{name}{{", self.metrics()[0])
         if shutil.which("promtool"):
@@ -475,6 +526,7 @@ class MonitorTest(ToolTest):
         rows = [
             ("zoneinfo: not the text of /proc/zoneinfo", ""),
             ("zoneinfo:1: zone 0 Normal has a threshold above 125", zone(thresholds=(20, 126))),
+            ("zoneinfo:14: zone 0 Normal has 262144 as 'managed', and 1000 as 'present'", zone(present=1000)),
             ("zoneinfo:1: zone 0 Normal has no 'low'", zone().replace("        low      125\n", "")),
         ]
         for message, text in rows:
@@ -500,11 +552,12 @@ class MonitorTest(ToolTest):
 
     def test_bad_words(self):
         for words in (["--vmstat", "v"], ["--cpus", "0"], ["--cpus", "8193"], ["--cpus", "9" * 5000], ["--watch", "0"],
-                      ["--watch", "x"], ["--watch", "1", "--openmetrics"], ["--watch", "1", "--zoneinfo", "-"],
+                      ["--watch", "x"], ["--watch", "1", "--openmetrics"],
+                      ["--watch", "1", "--prometheus"], ["--watch", "1", "--zoneinfo", "-"],
                       ["--watch", "1e10"], ["--watch", "-1"], ["--watch", "nan"], ["--page-size", "4096"],
                       ["--zoneinfo", "z", "--page-size", "4095"], ["--zoneinfo", "z", "--apart", "1"],
                       ["--zoneinfo", "z", "--vmstat", "v", "--apart", "-1"],
-                      ["--json", "--openmetrics"], ["zoneinfo"]):
+                      ["--json", "--openmetrics"], ["--prometheus", "--openmetrics"], ["zoneinfo"]):
             with self.subTest(words):
                 self.fails("usage: monitor.py", *words, status=2)
 
@@ -521,7 +574,7 @@ class ReplayTest(ToolTest):
         directory = tempfile.TemporaryDirectory()
         cls.addClassCleanup(directory.cleanup)
         cls.program = Path(directory.name, "replay")
-        subprocess.run(["rustc", "--edition", "2021", "-o", cls.program, TOP / "bench" / "replay.rs"], check=True)
+        subprocess.run(["rustc", "--edition", "2021", "-o", cls.program, TOP / "bench" / "vozhkell.rs"], check=True)
 
     def replay(self, lines):
         """What the program prints of a trace that it accepts."""

@@ -19,13 +19,13 @@ TOOL_WORDS = {
     "probe": ["trace", FREE, "1"],
     "drift": ["trace", "answers"],
     "page": ["trace", "--program", "program"],
+    "make_monitor": [],
 }
-# Stands for the program: what it prints of TRACE, and of TRACE with the questions of page.py below it.
+# Stands for the program: what it prints of TRACE, and of TRACE with the questions of page.py wherever they stand.
 PROGRAM = f"""#!{sys.executable} -S
 import sys
 lines = sys.stdin.read().splitlines()
-if "report zoneinfo" in lines:
-    at = lines.index("report zoneinfo") + 1
+for at in [n for n, line in enumerate(lines, 1) if line == "report zoneinfo"]:
     zone, node = {{item: 0 for item in {ZONE_ITEMS}}}, {{item: 0 for item in {NODE_ITEMS}}}
     zone["nr_free_pages"] = 9
     cpu = "  cpu 0 threshold 10 differentials" + 8 * " 0"

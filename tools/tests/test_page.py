@@ -5,6 +5,7 @@ On 2 CPUs a zone of 262,144 pages has the threshold 20: so many pages of each CP
 import json
 import os
 import sys
+import time
 from unittest import mock
 
 from calls import ToolTest, vmtrace
@@ -29,30 +30,36 @@ k val 0 Normal nr_free_pages
 """
 ZEROS = " 0" * 7
 OTHERS = [f"0 Normal {item}" for item in vmtrace.ZONE_ITEMS[1:]] + [f"0 node {item}" for item in vmtrace.NODE_ITEMS]
-# The script goes by the number of lines above the questions of page.py, as each line of BODY has its effect.
+# The script goes by the number of lines of the trace above, as each line of BODY has its effect.
 PROGRAM = f"""#!{sys.executable} -IS
 import sys
-lines = sys.stdin.read().splitlines()
-above = lines.index("report zoneinfo") if "report zoneinfo" in lines else len(lines)
-answers = ["line 13: refused: UnknownLane", "line 14: value 1000"]
-print(*answers[:max(0, above - 12)], sep="\\n")
-free = [-5 if above > 10 else 0, 3 if above > 6 else 0]
-faults, files = 4 if above > 7 else 0, 9 if above > 8 else 0
-dead = "dead " if above > 9 else ""
-zoneinfo = ["Node 0, zone Normal", "  pages free 1000", "  min 100", "  drift mark 190", "  nr_free_pages 1000"]
-zoneinfo += [f"  {{item}} 0" for item in {vmtrace.ZONE_ITEMS[1:]}]
-zoneinfo += [f"  cpu {{n}} {{dead * n}}threshold 20 differentials {{free[n]}}{ZEROS}" for n in range(2)]
-zoneinfo += ["Node 0, all zones", *(f"  {{item}} 0" for item in {vmtrace.NODE_ITEMS})]
-zoneinfo += [f"  cpu {{n}} {{dead * n}}threshold 20 differentials 0{ZEROS}" for n in range(2)]
-totals = [f"0 Normal nr_free_pages {{1000 + sum(free)}}", *(f"{{name}} 0" for name in {OTHERS})]
-totals += [f"event {{event}} {{faults if event == 'pgfault' else 0}}" for event in {page.EVENTS}]
-totals.append(f"counter files {{files}}")
-counters = [f"files batch 32 count 0 locals 0 {{files}} sum {{files}}"]
-if above < len(lines):
-    for n, report in enumerate([zoneinfo, totals, counters]):
-        print(f"line {{above + n + 1}}: {{lines[above + n]}}", *report, sep="\\n")
-    for n, event in enumerate({page.EVENTS}, above + 4):
-        print(f"line {{n}}: events {{faults if event == 'pgfault' and not dead else 0}}")
+EVENTS = {page.EVENTS}
+answers = {{13: "refused: UnknownLane", 14: "value 1000"}}
+above = 0
+for number, line in enumerate(sys.stdin.read().splitlines(), 1):
+    free = [-5 if above > 10 else 0, 3 if above > 6 else 0]
+    faults, files = 4 if above > 7 else 0, 9 if above > 8 else 0
+    dead = "dead " if above > 9 else ""
+    if line == "report zoneinfo":
+        print(f"line {{number}}: {{line}}", "Node 0, zone Normal", "  pages free 1000", "  min 100", sep="\\n")
+        print("  drift mark 190", "  nr_free_pages 1000", sep="\\n")
+        print(*(f"  {{item}} 0" for item in {vmtrace.ZONE_ITEMS[1:]}), sep="\\n")
+        print(*(f"  cpu {{n}} {{dead * n}}threshold 20 differentials {{free[n]}}{ZEROS}" for n in range(2)), sep="\\n")
+        print("Node 0, all zones", *(f"  {{item}} 0" for item in {vmtrace.NODE_ITEMS}), sep="\\n")
+        print(*(f"  cpu {{n}} {{dead * n}}threshold 20 differentials 0{ZEROS}" for n in range(2)), sep="\\n")
+    elif line == "report totals":
+        print(f"line {{number}}: {{line}}", f"0 Normal nr_free_pages {{1000 + sum(free)}}", sep="\\n")
+        print(*(f"{{name}} 0" for name in {OTHERS}), sep="\\n")
+        print(*(f"event {{event}} {{faults if event == 'pgfault' else 0}}" for event in EVENTS), sep="\\n")
+        print(f"counter files {{files}}")
+    elif line == "report counters":
+        print(f"line {{number}}: {{line}}", f"files batch 32 count 0 locals 0 {{files}} sum {{files}}", sep="\\n")
+    elif line.startswith("k evsum "):
+        print(f"line {{number}}: events {{faults if line == 'k evsum pgfault' and not dead else 0}}")
+    else:
+        above += 1
+        if above in answers:
+            print(f"line {{number}}: {{answers[above]}}")
 print("done accepted 6 refused 1")
 sys.exit(3)
 """
@@ -145,6 +152,17 @@ class PageTest(ToolTest):
         bounded = [page.Moment(line, 0, None, 0, bound) for line, bound in enumerate([0, 20, 40, 40], 1)]
         self.assertEqual(page.Figure("", "", "pages", "", bounded).worst()["from"], 3)
 
+    def test_where_the_page_opens(self):
+        """At the worst moment; where nothing is off, at the first answer that is no refusal, if there is one."""
+        self.assertEqual(self.data()["opens"], 7)
+        self.assertEqual(self.data("--counter", "0 node nr_dirty")["opens"], 7)
+        right = page.Figure("", "", "pages", "", [page.Moment(6, 0, 0, 0), page.Moment(7, 0, 0, 0, 9)])
+        off = page.Figure("", "", "pages", "", [page.Moment(6, 0, 0, 0), page.Moment(9, 1, 0, 0, 9)])
+        shown = [[7, "CPU 0", "", ""], [8, "CPU 0", "", "refused: Malformed"], [9, "CPU 0", "", "value 3"]]
+        self.assertEqual(page.opening([right], shown), 9)
+        self.assertEqual(page.opening([right], shown[:2]), 7)
+        self.assertEqual(page.opening([right, off], shown), 7)
+
     def test_the_order_of_figures(self):
         figures = [page.Figure(name, name, law, "", [page.Moment(1, 0, None, 0), page.Moment(2, value, None, total)])
                    for name, law, value, total in (
@@ -172,17 +190,47 @@ class PageTest(ToolTest):
         header = vmtrace.Header(lines=1)
         cases = ((0, 0, 1, [1]), (3, 3, 1, [1, 2, 3, 4]), (2_000, 2_000, 1, None), (4_801, 1_601, 3, None))
         for told, readings, wanted_step, wanted in cases:
-            places, step = page.places_of(["go", *["sync"] * told], header)
+            batches, step = page.places_of(["go", *["sync"] * told], header)
+            places = sum(batches, [])
             self.assertEqual((len(places), step), (readings + 1, wanted_step))
             self.assertEqual(places[-1], told + 1)
             self.assertEqual(places, sorted(set(places)))
             if wanted:
                 self.assertEqual(places, wanted)
 
+    def test_places_before_a_setter_have_their_own_replay(self):
+        """A report ends a phase, and a line that sets thresholds goes by what CPUs knew in its phase."""
+        lines = ["cpus 1", "go", "c0 inc", "k pressure 0", "c0 inc", "sync", "c0 inc", "offline 9", "k dead 0",
+                 "c0 inc"]
+        header = vmtrace.Header(lines=2)
+        self.assertEqual(page.places_of(lines, header, {8}), ([[2, 3], [4, 5, 9, 10], [6, 7, 8]], 1))
+        self.assertEqual(page.places_of(lines, header, {9}), ([[2, 3], [4, 5, 6, 7, 9, 10], [8]], 1))
+        self.assertEqual(page.places_of(lines, header)[0], [[2, 3], [4, 5, 6, 7, 9, 10], [8]])
+
+    def test_replays_grow_with_the_lines_alone(self):
+        """However many lines there are, and whatever they are, so many replays read them."""
+        header = vmtrace.Header(lines=1)
+        for line, most in (("c0 inc", 11), ("sync", 11), ("k kswapd 0 3 2", page.MOST_REPLAYS)):
+            for many in (200, 2_000, 5_000):
+                with self.subTest(line, many=many):
+                    batches, _ = page.places_of(["go", *[line] * many], header)
+                    self.assertLessEqual(len(batches), most)
+                    self.assertEqual(max(map(max, batches)), many + 1)
+
+    def test_the_limit_of_time(self):
+        trace = self.file("trace", HEADER + BODY)
+        message = "the replays of the trace have taken 0.3 seconds; --seconds allows for more"
+        began = time.monotonic()
+        for first in ("", 'print("done accepted 0 refused 0", flush=True)\nos.close(1)\n'):
+            program = self.program(f"#!{sys.executable} -IS\nimport os, time\n{first}time.sleep(60)\n")
+            self.fails(message, trace, "--program", program, "--seconds", "0.3")
+        self.fails("have taken 0 seconds", trace, "--program", self.program(), "--seconds", "0")
+        self.assertLess(time.monotonic() - began, 30)
+
     def test_words_of_a_line_stand_as_text(self):
         body = "c0 </script><b>\n"
-        program = PROGRAM.replace("line 13: refused: UnknownLane", "line 7: refused: Malformed").replace(
-            "above - 12", "above - 6").replace("above > 6", "above > 9")
+        program = PROGRAM.replace('13: "refused: UnknownLane"', '7: "refused: Malformed"').replace(
+            "above > 6", "above > 9")
         status, output, _ = self.call(self.file("trace", HEADER + body), "--program", self.program(program))
         self.assertEqual(status, 0)
         self.assertNotIn("</script><b>", output)
@@ -212,7 +260,9 @@ class PageTest(ToolTest):
             (others, PROGRAM.replace("counter files {files}", "counter inodes 0")),
             (others, PROGRAM.replace("locals 0 {files}", "locals")),
             (others, PROGRAM.replace(": events", ": sum")),
-            (others, PROGRAM.replace("above + 4", "above + 5")),
+            (others, PROGRAM.replace("{number}: events", "{number + 1}: events")),
+            # another answer where reports stand among the lines
+            (others, PROGRAM.replace("{answers[above]}", "{answers[above]}{'0' * (number > above)}")),
         ]
         for message, program in programs:
             with self.subTest(program):
@@ -226,7 +276,7 @@ class PageTest(ToolTest):
         self.fails("page: standard input:1: 'cpus 0' is no header line", "-", stdin="cpus 0\n")
         wrong = [("6", "0 Normal nr_free_pages", "1000 + sum(free)", "1050"),
                  ("7", "0 Normal nr_free_pages", "3 if above", "21 if above"),
-                 ("8", "event pgfault", "{faults if event == 'pgfault' and", "{0 if"),
+                 ("8", "event pgfault", "events {faults if", "events {0 if"),
                  ("9", "counter files", "9 if above > 8", "65 if above > 8")]
         for line, counter, before, after in wrong:
             with self.subTest(after):

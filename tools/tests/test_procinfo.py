@@ -87,6 +87,34 @@ class CutTest(unittest.TestCase):
                     text = "".join(lines[:number] + [line[:size] + "\n"] + lines[number + 1:])
                     self.keep(text, f"line {number + 1} cut after {size} bytes")
 
+    def test_every_digit_that_is_damaged(self):
+        """Each digit as another one, missing or twice: the bound is that of the whole one, or larger where a threshold
+        is, or the text is refused."""
+        thresholds = [BOUNDS[zone] // 4 for zone in list(BOUNDS)[:3]]
+        refused = 0
+        for at, digit in enumerate(RECORDED):
+            if not digit.isdigit():
+                continue
+            line = RECORDED[RECORDED.rfind("\n", 0, at) + 1:RECORDED.index("\n", at)]
+            for text in {"", 2 * digit, *"0123456789"} - {digit}:
+                try:
+                    info = procinfo.read_zoneinfo(RECORDED[:at] + text + RECORDED[at + 1:], "zoneinfo")
+                except vmtrace.BadInput as bad:
+                    self.assertRegex(str(bad), r"^zoneinfo:[0-9]+: ")
+                    refused += 1
+                    continue
+                found = monitor.Thresholds(False)
+                for zone in info.populated:
+                    found.take_in(zone, monitor.Machine("zoneinfo", "", info, [], len(info.cpus), 4096))
+                largest = [found.of_zone(zone)[0] for zone in info.populated]
+                what = f"'{text}' for the digit at {at}, in '{line}'"
+                self.assertEqual(len(info.cpus), 4, what)
+                if procinfo.THRESHOLD in line:
+                    self.assertTrue(all(map(int.__ge__, largest, thresholds)), what)
+                else:
+                    self.assertEqual(largest, thresholds, what)
+        self.assertGreater(refused, 400)
+
     def test_whole_zones_that_are_missing_or_doubled(self):
         zones = [f"Node 0, zone{text}" for text in RECORDED.split("Node 0, zone")[1:]]
         self.assertEqual("".join(zones), RECORDED)
@@ -155,6 +183,8 @@ class FormTest(unittest.TestCase):
             ("zoneinfo:1: zone 0 Normal has no 'present'", whole(0).replace("present", "absent")),
             ("zoneinfo:1: zone 0 Normal has no 'nr_free_pages'", whole(0).replace("nr_free_pages", "nr_bounce")),
             ("zoneinfo:12: '      nr_free_pages 7' stands where 'Node N, zone NAME' is expected",
+             whole(0).replace("present  1000\n        managed  1000", "present  0\n        managed  0")),
+            ("zoneinfo:10: zone 0 Normal has 1000 as 'managed', and 0 as 'present', which is never less",
              whole(0).replace("present  1000", "present  0")),
             ("zoneinfo:12: 'Node 0, zone  Movable' stands where 'pagesets' is expected",
              head(0, "Normal", 1000, stats="  per-node stats\n") + "\n      nr_free_pages 7\n" + bare(0)),
@@ -165,6 +195,12 @@ class FormTest(unittest.TestCase):
             ("zoneinfo:1: zone 0 Normal is one of 2", two),
             ("zoneinfo:1: 'per-node stats' stand in the first zone", whole(0, stats="", kinds=1)),
             ("zoneinfo:26: 'per-node stats' stand in the first zone", whole(0) + whole(0, "Movable")),
+            ("zoneinfo:10: zone 0 Normal has 1001 as 'managed', and 1000 as 'present', which is never less",
+             whole(0).replace("managed  1000", "managed  1001")),
+            ("zoneinfo:9: zone 0 Normal has 1000 as 'present', and 999 as 'spanned', which is never less",
+             whole(0).replace("spanned  1000", "spanned  999")),
+            ("zoneinfo:33: zone 0 Movable has 1 as 'managed', and 0 as 'present', which is never less",
+             whole(0) + bare(0).replace("managed  0", "managed  1")),
             ("zoneinfo:26: zone 1 Normal shows other CPUs",
              whole(0, kinds=1) + whole(1, kinds=1).replace("cpu: 2", "cpu: 3")),
             ("zoneinfo:1: zone 0 Normal shows other CPUs, or thresholds of others",

@@ -1,7 +1,7 @@
 -- Histories under the kernel's rules of thresholds.
 use Rattle.vms_certifying.specs.HistoryRules.{HistoryRules}
 use Rattle.vms_history_judge.specs.WrittenRules.{written_rules}
-use Rattle.vms_walks.specs.Rules.{IsExactly}
+use Rattle.vms_own_acts.specs.Common.{IsExactly}
 use Rattle.vms_world.specs.Common.{normal_threshold_of, pressure_threshold_of}
 
 -- when lines are a history of the page counters of a trace, by thresholds that go by the kernel's formulas

@@ -1,6 +1,6 @@
 ghost use Rattle.std.specs.Prelude.{List, map};
 ghost use Rattle.vms_file_order.specs.Common.{IsFileOrderPhase, MakeInAnyOrder};
-ghost use Rattle.vms_walks.specs.Rules.{IsExactly};
+ghost use Rattle.vms_own_acts.specs.Common.{IsExactly};
 ghost use Rattle.vms_world.specs.Common.{Header, IsHeader, IsWorldRun, Item, Segment, TableHistories};
 ghost use Rattle.vms_world.specs.Common.{normal_threshold_of, pressure_threshold_of};
 ghost use Rattle.vms_world.specs.declared.worlds.World.{World};
@@ -9,8 +9,8 @@ ghost use Rattle.vms_written_rules.specs.Rules.{Allows};
 
 use vms_calls::ThresholdRules;
 use vms_line_walks::LineWalk;
+use vms_own_acts::ExactRules;
 use vms_phase_checks::LaneWalk;
-use vms_walks::ExactRules;
 use vms_written_rules::made_phases_are_written;
 
 /// A program whose rules go by the kernel's formulas, where they are asked, makes what the checker certifies: the page

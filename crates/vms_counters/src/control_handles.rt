@@ -10,7 +10,7 @@ ghost use Rattle.vms_counters.specs.Calls.{RefusesOrderTest, RefusesRating, Refu
 ghost use Rattle.vms_counters.specs.Calls.{RefusesZoneTest, layout_of};
 ghost use Rattle.vms_counters.specs.Handles.{OnPages};
 ghost use Rattle.vms_kswapd.specs.Common.{CountsBlocks, NamesPassed};
-ghost use Rattle.vms_look.specs.Common.{HasSummed, SaysTruly, SumsTruly, TellsTruly};
+ghost use Rattle.vms_look.specs.Common.{LoadsTruly, SaysTruly, SumsTruly, SystemLoadsTruly, TellsTruly};
 
 use crate::errors::CallError;
 use crate::shared::SharedCounters;
@@ -64,26 +64,30 @@ impl ControlHandle {
     }
 
     /// The global value of a counter, in pages, and 0 where it is negative (`zone_page_state` of
-    /// include/linux/vmstat.h and `node_page_state_pages` of mm/vmstat.c).
+    /// include/linux/vmstat.h and `node_page_state_pages` of mm/vmstat.c). It is as near the counter's true total at the
+    /// moment of its load as the CPUs can hide and as is in flight.
     pub fn value(&mut self, counter: CounterId) -> Result<u64, CallError>
         ensures made { MatchResult result
             (λ value. Makes (IsCounter (layout_of self.old.page) counter.number)
             (λ steps. IsPlaceValue counter steps value) self.new.page self.old.page)
             (Refuses (IsCounter (layout_of self.old.page) counter.number) (CallError.NoCounter counter.number)
             self.new.page self.old.page) }
+        ensures truly { IfOk result (LoadsTruly self.new.page.pass self.old.page.pass counter) }
         ensures rest { OnPages self.new self.old }
     {
         looks::value(&self.shared, &mut self.passes.page, counter)
     }
 
     /// The system-wide value of an item, in pages, and 0 where it is negative (`global_zone_page_state` and
-    /// `global_node_page_state_pages` of include/linux/vmstat.h).
+    /// `global_node_page_state_pages` of include/linux/vmstat.h). It is as near the item's true total at the moment of
+    /// its load as the CPUs can hide of it and as is in flight of it.
     pub fn system_value(&mut self, item: ItemId) -> Result<u64, CallError>
         ensures made { MatchResult result
             (λ value. Makes (IsItem (layout_of self.old.page) item.number)
             (λ steps. IsSystemValue item steps value) self.new.page self.old.page)
             (Refuses (IsItem (layout_of self.old.page) item.number) (CallError.NoItem item.number)
             self.new.page self.old.page) }
+        ensures truly { IfOk result (SystemLoadsTruly self.new.page.pass self.old.page.pass item) }
         ensures rest { OnPages self.new self.old }
     {
         looks::system_value(&self.shared, &mut self.passes.page, item)
@@ -150,7 +154,7 @@ impl ControlHandle {
             SaysTruly self.new.page.pass self.old.page.pass zone
             (limit_of self.old.page.header zone.number mark most)) }
         ensures summed { IfOk result (λ verdict. verdict.fast ≡ false →
-            HasSummed self.new.page.pass self.old.page.pass (free_pages (layout_of self.old.page) zone) verdict.free) }
+            SumsTruly self.new.page.pass self.old.page.pass (free_pages (layout_of self.old.page) zone) verdict.free) }
         ensures counts { IfOk result (λ verdict. verdict.yes ≡ true → order ≢ 0 →
             CountsBlocks self.old.page.header self.new.page.pass self.old.page.pass zone order verdict.area) }
         ensures rest { OnPages self.new self.old }

@@ -1,6 +1,7 @@
 ghost use Rattle.std.specs.Prelude.{◌≡◌, ◌<◌, ◌↔◌, All, IfOk, IfErr, IsSome, IsTrue, MatchResult, None, Some, length};
 ghost use Rattle.std.specs.Prelude.{replicate, slice_index_or, slice_set};
 ghost use Rattle.vms_world.specs.Common.{IsHeader, IsWorldOf};
+ghost use Rattle.vms_tables.specs.Common.{mains_of, AreFrom, AreMadeFrom, AreTables, HaveSeenNothing};
 ghost use Rattle.vms_base.specs.declared.kinds.CpuState.TheVariants.{Online};
 ghost use Rattle.vms_counters.specs.Opened.{AreClosed, AreOpened, AreOpenedAt, BeginsControl, BeginsHandle};
 ghost use Rattle.vms_counters.specs.Opened.{EndsControl, EndsHandle, IsOf, no_volumes as no_volumes_of};
@@ -82,8 +83,29 @@ impl Counters {
         requires world { IsWorldOf header world }
         ensures { IfOk result (AreOpenedAt header world) }
     {
-        let (tables, mains) = Tables::make(alloc, &header, &world)?;
         let volumes = first_volumes(alloc, &header)?;
+        let (tables, mains) = Tables::make(alloc, &header, &world)?;
+        Counters::over(alloc, header, world, volumes, tables, mains)
+    }
+
+    /// Counters over the tables that were made of the world.
+    fn over(
+        alloc: Global,
+        header: Header,
+        world: World,
+        volumes: Vec<Option<CpuVolumes>>,
+        tables: Tables,
+        mains: MainPasses,
+    ) -> Result<Counters, Memory>
+        requires valid { IsHeader header }
+        requires world { IsWorldOf header world }
+        requires volumes { volumes.items ≡ replicate header.layout.cpus (Some (no_volumes_of header)) }
+        requires tables { AreTables header tables }
+        requires made { AreMadeFrom world tables }
+        requires of { AreFrom tables (mains_of mains) }
+        requires nothing { HaveSeenNothing (mains_of mains) }
+        ensures { IfOk result (AreOpenedAt header world) }
+    {
         let shared = Arc::new(alloc, SharedCounters { header, tables })?;
         Ok(Counters {
             shared,

@@ -7,7 +7,7 @@ ghost use Rattle.vms_counters.specs.Calls.{IsNodeTest, IsOrderedTest, IsZoneTest
 ghost use Rattle.vms_counters.specs.Calls.{RefusesOrderTest, RefusesZoneTest};
 ghost use Rattle.vms_counters.specs.Handles.{IsBetweenCalls, handle_of};
 ghost use Rattle.vms_kswapd.specs.Common.{CountsBlocks, NamesPassed};
-ghost use Rattle.vms_look.specs.Common.{HasSummed, SaysTruly, SumsTruly, TellsTruly};
+ghost use Rattle.vms_look.specs.Common.{LoadsTruly, SaysTruly, SumsTruly, SystemLoadsTruly, TellsTruly};
 
 use crate::errors::CallError;
 use crate::shared::SharedCounters;
@@ -60,6 +60,7 @@ pub(crate) fn value<P: Caller>(
         (Refuses (IsCounter shared.now.tables.pages.facts.layout counter.number) (CallError.NoCounter counter.number)
         (handle_of shared.now.header (P.pass pass.new) (P.volume pass.new))
         (handle_of shared.now.header (P.pass pass.old) (P.volume pass.old))) }
+    ensures truly { IfOk result (LoadsTruly (P.pass pass.new) (P.pass pass.old) counter) }
 {
     looks_leave_their_caller();
     let table = &shared.tables.pages;
@@ -85,6 +86,7 @@ pub(crate) fn system_value<P: Caller>(
         (Refuses (IsItem shared.now.tables.pages.facts.layout item.number) (CallError.NoItem item.number)
         (handle_of shared.now.header (P.pass pass.new) (P.volume pass.new))
         (handle_of shared.now.header (P.pass pass.old) (P.volume pass.old))) }
+    ensures truly { IfOk result (SystemLoadsTruly (P.pass pass.new) (P.pass pass.old) item) }
 {
     looks_leave_their_caller();
     let table = &shared.tables.pages;
@@ -181,7 +183,7 @@ pub(crate) fn zone_ok<P: Caller>(
     ensures truly { IfOk result (λ verdict. verdict.yes ≡ true → verdict.fast ≡ true →
         SaysTruly (P.pass pass.new) (P.pass pass.old) zone (limit_of shared.now.header zone.number mark most)) }
     ensures summed { IfOk result (λ verdict. verdict.fast ≡ false →
-        HasSummed (P.pass pass.new) (P.pass pass.old) (free_pages shared.now.tables.pages.facts.layout zone)
+        SumsTruly (P.pass pass.new) (P.pass pass.old) (free_pages shared.now.tables.pages.facts.layout zone)
         verdict.free) }
     ensures counts { IfOk result (λ verdict. verdict.yes ≡ true → order ≢ 0 →
         CountsBlocks shared.now.header (P.pass pass.new) (P.pass pass.old) zone order verdict.area) }

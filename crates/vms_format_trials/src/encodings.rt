@@ -1,35 +1,15 @@
-use std::test::Fail;
-use vms_base::{Diffs, decode, encode, fls, pack, push_number, unpack};
+ghost use Rattle.std.specs.Prelude.{◌≡◌, codes, negsuc, pos, [], ◌∷◌};
+ghost use Rattle.std.specs.Fmt.{signed_decimal};
+ghost use Rattle.vms_base.specs.Groups.{bytes_of_word, word_of_bytes};
+ghost use Rattle.vms_format_trials.specs.Rows.{AreRight};
+ghost use Rattle.vms_format_trials.specs.Encodings.{bit_rows, eight_numbers};
 
-#[test]
-fn numbers(rt: HostRuntime) -> Result<(), Fail> {
-    for (number, text) in [(0, "0"), (-5, "-5"), (i64::MIN, "-9223372036854775808")] {
-        let mut out = Vec::new(rt.alloc());
-        push_number(&mut out, number)?;
-        assert_eq!(rt; out.as_slice(), text.as_bytes(), "{number}");
-        assert_eq!(rt; decode(encode(number)), number);
-    }
-    for (x, bits) in [
-        (0, 0),
-        (1, 1),
-        (2, 2),
-        (3, 2),
-        (4, 3),
-        (255, 8),
-        (256, 9),
-        (u64::MAX, 64),
-    ] {
-        assert_eq!(rt; fls(x), bits, "fls of {x}");
-    }
-    Ok(())
-}
-
-#[test]
-fn packs(rt: HostRuntime) {
-    let diffs = Diffs {
-        values: [1, -1, 0, 127, -128, 2, 3, -2],
-    };
-    assert_eq!(rt; pack(&diffs), 0xfe03_0280_7f00_ff01);
-    assert_eq!(rt; unpack(0xfe03_0280_7f00_ff01), diffs);
-    assert_eq!(rt; unpack(0), Diffs::zeros());
-}
+/// Digits, highest bits and packed words have these values. The first of eight numbers is the lowest byte of a word.
+pub fn encodings_are_known()
+    ensures zero { signed_decimal (pos 0) ≡ codes "0" }
+    ensures negative { signed_decimal (negsuc 4) ≡ codes "-5" }
+    ensures least { signed_decimal (negsuc 9223372036854775807) ≡ codes "-9223372036854775808" }
+    ensures bits { AreRight bit_rows }
+    ensures packed { word_of_bytes eight_numbers ≡ 18303476061473668865 }
+    ensures unpacked { bytes_of_word 18303476061473668865 ≡ eight_numbers }
+{}

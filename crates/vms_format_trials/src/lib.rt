@@ -1,11 +1,12 @@
-//! Trials of the crates at the bottom: encodings, formulas, a text that is made, and lines of written histories.
+//! Facts of the lowest crates: thresholds and drift marks at the limits of their ranges, encodings, and a made text.
 #![tactic(auto)]
 
-#[cfg(test)]
 mod encodings;
-#[cfg(test)]
-mod formulas;
-#[cfg(test)]
-mod made_texts;
-#[cfg(test)]
-mod written_lines;
+mod marks;
+mod texts;
+mod thresholds;
+
+pub use encodings::encodings_are_known;
+pub use marks::marks_are_known;
+pub use texts::made_text_is_known;
+pub use thresholds::{rules_may_be_shared, thresholds_are_known};

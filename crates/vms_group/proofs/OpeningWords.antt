@@ -1,33 +1,14 @@
 -- The words that show a base, row by row, and how many there are.
-use Rattle.std.proofs.Common.{Option, ℤ, pos, ◌≡◌, ℕ, suc, ◌+◌, ◌-◌, ◌*◌, ◌<◌, ◌≤◌, ◌^◌, List, ◌++◌, length, get_or}
-use Rattle.std.proofs.Common.{take, drop, refl, sym, ◌∙◌, ap, arith, mul-le-mul}
+use Rattle.std.proofs.Common.{ℤ, pos, ◌≡◌, ℕ, suc, ◌+◌, ◌-◌, ◌*◌, ◌<◌, ◌≤◌, ◌^◌, List, ◌++◌, length, get_or, take, drop}
+use Rattle.std.proofs.Common.{refl, sym, ◌∙◌, ap, arith, mul-le-mul}
 use Rattle.std.proofs.Math.Nat.{mul-le-mul_right}
 use Rattle.std.proofs.lemmas.List.{get_or-drop, get_or-take, length-drop, length-take-le}
-use Rattle.vms_group_core.specs.declared.states.GroupState.{GroupState}
 use Rattle.vms_group_core.specs.declared.steps.GroupFacts.{GroupFacts}
 use Rattle.vms_group_core.specs.declared.trees.Tree.{Tree}
 use Rattle.vms_group_core.specs.Common.{IsBase, IsGroup, IsTree, IsTreeCpu, group_count, pending_at}
 use Rattle.vms_group.specs.SharedWords.{first_rows, shown}
 use Rattle.vms_group.specs.Common.{gap, row_of, row_width, word_count}
 use Rattle.vms_group.proofs.ShownWords.{first_rows-more, first_rows-none, length-shown}
-
--- the facts with these lists
-abbrev facts_of : List (Option ℕ) → ℕ → List ℤ → List ℤ → List ℤ → GroupFacts
-facts_of parents cpus value up pending = record {
-  tree = record { parents = parents; cpus = cpus };
-  base = record { value = value; up = up; pending = pending };
-}
-
--- facts that are copied list by list are the same facts
-pub copied-facts : (tree : Tree) (base : GroupState) (parents : List (Option ℕ)) (value up pending : List ℤ)
-    → parents ≡ tree.parents → value ≡ base.value → up ≡ base.up → pending ≡ base.pending
-    → facts_of parents tree.cpus value up pending
-    ≡ facts_of tree.parents tree.cpus base.value base.up base.pending
-copied-facts tree base parents value up pending one two three four =
-    ap (λ (xs : List (Option ℕ)). facts_of xs tree.cpus value up pending) one
-    ∙ ap (λ (xs : List ℤ). facts_of tree.parents tree.cpus xs up pending) two
-    ∙ ap (λ (xs : List ℤ). facts_of tree.parents tree.cpus base.value xs pending) three
-    ∙ ap (λ (xs : List ℤ). facts_of tree.parents tree.cpus base.value base.up xs) four
 
 -- a tree has some words, and not many
 pub words-some : (tree : Tree) → IsTree tree → 0 < word_count tree

@@ -50,17 +50,7 @@ impl GroupTable {
         ensures table { IfOk result (λ made. made.0.facts ≡ record { tree = tree.now; base = base.now }) }
         ensures main { IfOk result (λ made. IsFrom made.1 made.0 × (made.1.seen ≡ [])) }
     {
-        let facts = GroupFacts {
-            tree: Tree {
-                parents: Row::from_slice(alloc, tree.parents.as_slice())?,
-                cpus: tree.cpus,
-            },
-            base: GroupState {
-                value: Row::from_slice(alloc, base.value.as_slice())?,
-                up: Row::from_slice(alloc, base.up.as_slice())?,
-                pending: Row::from_slice(alloc, base.pending.as_slice())?,
-            },
-        };
+        let facts = opening_facts(alloc, tree, base)?;
         let first = opening_words(alloc, &facts)?;
         let (words, main) = Words::make(alloc, &facts, first.as_slice())?;
         Ok((GroupTable { facts, words }, main))
@@ -97,6 +87,23 @@ impl GroupTable {
         *into = GroupState { value, up, pending };
         closing.leave()
     }
+}
+
+/// What a phase on a tree of groups begins with.
+fn opening_facts(alloc: Global, tree: &Tree, base: &GroupState) -> Result<GroupFacts, Memory>
+    ensures { IfOk result (λ facts. facts ≡ record { tree = tree.now; base = base.now }) }
+{
+    let parents = Row::from_slice(alloc, tree.parents.as_slice())?;
+    let value = Row::from_slice(alloc, base.value.as_slice())?;
+    let up = Row::from_slice(alloc, base.up.as_slice())?;
+    let pending = Row::from_slice(alloc, base.pending.as_slice())?;
+    Ok(GroupFacts {
+        tree: Tree {
+            parents,
+            cpus: tree.cpus,
+        },
+        base: GroupState { value, up, pending },
+    })
 }
 
 /// The words that show a base.

@@ -16,7 +16,7 @@ use std::alloc::Global;
 use vms_base::{CpuId, Memory, Row, Volume};
 use vms_group::{GroupMain, GroupPass, GroupTable};
 use vms_group_core::GroupAnswer;
-use vms_lane::Gate;
+use vms_jobs::Gate;
 
 /// A lane that is to run: its pass, and the lines of the phase, among which its own stand.
 #[derive(Drop)]

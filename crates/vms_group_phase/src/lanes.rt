@@ -12,7 +12,7 @@ use std::alloc::Global;
 use std::thread::Threads;
 use vms_base::{Memory, Row};
 use vms_group::{GroupMain, GroupTable};
-use vms_lane::Gate;
+use vms_jobs::Gate;
 
 /// The values that the lines of one lane found which ask for one, in their order. A list of them has one for each CPU.
 #[derive(Drop)]

@@ -17,5 +17,5 @@ mod worlds;
 pub use items::{GroupItem, NumberedValue};
 pub use laws::{group_phases_add_their_lines, group_phases_keep_laws, group_phases_lead_on};
 pub use phases::{GroupPhaseDone, run_group_phase};
-pub use vms_lane::Gate;
+pub use vms_jobs::Gate;
 pub use worlds::GroupWorld;

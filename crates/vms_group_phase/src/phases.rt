@@ -13,7 +13,7 @@ use std::thread::Threads;
 use vms_base::Memory;
 use vms_group::{GroupHistory, GroupTable};
 use vms_group_core::{Tree, answers_are_read};
-use vms_lane::Gate;
+use vms_jobs::Gate;
 
 /// A phase that was run.
 #[derive(Drop)]

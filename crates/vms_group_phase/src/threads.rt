@@ -6,8 +6,7 @@ use std::alloc::Global;
 use std::thread::Threads;
 use vms_base::Memory;
 use vms_group::GroupTable;
-use vms_jobs::map_jobs;
-use vms_lane::Gate;
+use vms_jobs::{Gate, map_jobs};
 
 /// Makes the lines of jobs side by side: those of the first on this thread, and those of each other one on a thread of
 /// its own. Returns once all are made, with the results in the order of the jobs.

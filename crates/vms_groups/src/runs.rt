@@ -3,7 +3,7 @@ use std::marker::Model;
 use vms_base::Memory;
 use vms_group::GroupHistory;
 use vms_group_phase::GroupItem;
-use vms_run::Memo;
+use vms_memo::Memo;
 
 /// A phase that was run: its lines, and its history. It stores none of them, and contracts see them.
 #[derive(Drop)]

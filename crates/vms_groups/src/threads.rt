@@ -6,7 +6,7 @@ use std::marker::Model;
 use vms_base::Memory;
 use vms_group_core::Tree;
 use vms_group_phase::{GroupItem, GroupPhaseDone, GroupWorld, NumberedValue};
-use vms_run::Memo;
+use vms_memo::Memo;
 
 /// The engine that has each phase run, with a thread for each lane that has lines, and keeps the phases.
 #[derive(Drop)]

@@ -17,11 +17,11 @@ use Rattle.vms_written_states.specs.PageStarts.{IsPageStart}
 use Rattle.vms_written_states.proofs.Crossings.{IsPageStart-crossed}
 use Rattle.vms_history_checks.specs.declared.bounds.BoundaryAt.{BoundaryAt}
 use Rattle.vms_history_checks.specs.Bounds.{BeginsWithNoBoundary, bounds_of, scripts_of}
-use Rattle.vms_history_checks.specs.Crossings.{MayCrossPages, kernel_rule}
+use Rattle.vms_page_crossings.specs.Common.{MayCrossPages}
 use Rattle.vms_history_checks.specs.Leads.{HasLed, LeadsOn}
 use Rattle.vms_history_checks.specs.Leads.LeadsOn.{between, here}
-use Rattle.vms_history_checks.proofs.KernelAnswers.{AreAnswers-exact, IsExact}
-use Rattle.vms_history_checks.proofs.PageRooms.{MayCross-page, online-least-page, online-most-page}
+use Rattle.vms_history_checks.proofs.KernelAnswers.{AreAnswers-exact, IsExact, kernel_rule}
+use Rattle.vms_page_crossings.proofs.PageRooms.{MayCross-page, online-least-page, online-most-page}
 use Rattle.vms_history_checks.proofs.Ways.{LeadsOn-append}
 
 -- boundary lines after a phase more come later

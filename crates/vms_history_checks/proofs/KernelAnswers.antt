@@ -1,11 +1,14 @@
--- What the kernel's rule answers for zones is what a rule answers that goes by its formula.
-use Rattle.std.proofs.Common.{◌≡◌, ℕ, ◌≤◌, List, get_or, sym, ◌∙◌, arith, subst}
-use Rattle.std.specs.Prelude.{◌↔◌, Result, Ok, Err, IfOk}
+-- What the kernel's formula answers for zones is what a rule answers that goes by it.
+use Rattle.std.proofs.Common.{◌≡◌, ℕ, ◌≤◌, List, get_or, sym, ◌∙◌, arith}
+use Rattle.std.specs.Prelude.{◌↔◌}
 use Rattle.std.proofs.lemmas.List.{ext_get_or}
 use Rattle.std.proofs.lemmas.List.Elements.{All-get_or}
-use Rattle.vms_world.specs.Common.{AreAnswers, Header, IsHeader, IsValidSize, IsZone, Memory, State, ZoneSize}
-use Rattle.vms_world.specs.Common.{bare_pages, count_online, normal_threshold_of, refreshed, size_at}
-use Rattle.vms_history_checks.specs.Crossings.{GoesByKernel, kernel_rule}
+use Rattle.vms_world.specs.Common.{AreAnswers, Header, IsHeader, IsValidSize, IsZone, ZoneSize, normal_threshold_of}
+use Rattle.vms_world.specs.Common.{size_at}
+use Rattle.vms_own_acts.specs.Common.{IsExactly}
+
+abbrev pub kernel_rule : ZoneSize → ℕ → ℕ → Type 0
+kernel_rule = IsExactly normal_threshold_of
 
 abbrev pub IsExact : (ZoneSize → ℕ → ℕ → Type 0) → Type 0
 IsExact normal = (size : ZoneSize) (online t : ℕ) → IsValidSize size → 1 ≤ online → online ≤ 128
@@ -19,14 +22,6 @@ module _ (header : Header) (valid : IsHeader header) (online : ℕ) (least : 1 �
   valid-size : (g : ℕ) → IsZone header.layout g → IsValidSize (size_at header.sizes g)
   valid-size g g_in =
       All-get_or IsValidSize header.sizes g no_size (omega (arith, g_in, valid.sizes_length)) valid.sizes_valid
-
-  pub AreAnswers-kernel : (answers : ZoneSize → ℕ → ℕ → Type 0) → GoesByKernel answers
-      → AreAnswers header answers online zones → AreAnswers header kernel_rule online zones
-  AreAnswers-kernel answers exact are = record {
-    one_each = are.one_each;
-    each = λ g g_in. exact (size_at header.sizes g) online (get_or zones g 0) (valid-size g g_in) least most
-        (are.each g g_in);
-  }
 
   module _ (normal : ZoneSize → ℕ → ℕ → Type 0) (exact : IsExact normal) where
     pub AreAnswers-exact : AreAnswers header kernel_rule online zones → AreAnswers header normal online zones
@@ -45,31 +40,3 @@ module _ (header : Header) (valid : IsHeader header) (online : ℕ) (least : 1 �
         let size = size_at header.sizes g in
         (exact size online (get_or zones g 0) (valid-size g g_in) least most).0 (are.each g g_in)
         ∙ sym ((exact size online (get_or others g 0) (valid-size g g_in) least most).0 (other_are.each g g_in)))
-
--- the page counters that a run begins with
-module _ (header : Header) (valid : IsHeader header) where
-  abbrev Begins : (ZoneSize → ℕ → ℕ → Type 0) → State → Type 0
-  Begins answers s = (zones : List ℕ) × AreAnswers header answers header.layout.cpus zones
-      × (s ≡ refreshed header zones (bare_pages header))
-
-  pub first-kernel : (answers : ZoneSize → ℕ → ℕ → Type 0) → GoesByKernel answers → (result : Result State Memory)
-      → IfOk result (Begins answers) → IfOk result (Begins kernel_rule)
-  first-kernel answers exact (Ok s) (zones, are, same) = (
-    zones,
-    AreAnswers-kernel header valid header.layout.cpus valid.is_layout.cpus_least valid.is_layout.cpus_most zones answers
-        exact are,
-    same,
-  )
-  first-kernel answers exact (Err e) is = tt
-
-  -- and those that a refresh makes
-  abbrev Refreshes : (ZoneSize → ℕ → ℕ → Type 0) → State → State → Type 0
-  Refreshes answers s next = (zones : List ℕ) × AreAnswers header answers (count_online s.cpu) zones
-      × (next ≡ refreshed header zones s)
-
-  pub refreshed-kernel : (answers : ZoneSize → ℕ → ℕ → Type 0) → GoesByKernel answers → (up : State)
-      → 1 ≤ count_online up.cpu → count_online up.cpu ≤ 128 → (s : State) → s ≡ up → (next : State)
-      → Refreshes answers s next → Refreshes kernel_rule up next
-  refreshed-kernel answers exact up least most s same next refreshes =
-      let on : Refreshes answers up next = subst (λ (x : State). Refreshes answers x next) same refreshes in
-      (on.0, AreAnswers-kernel header valid (count_online up.cpu) least most on.0 answers exact on.1, on.2)

@@ -1,5 +1,4 @@
 pub mod KernelAnswers
-pub mod PageRooms
 pub mod Ways
 pub mod OneWay
 pub mod CrossedBounds

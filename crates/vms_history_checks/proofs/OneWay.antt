@@ -19,7 +19,7 @@ use Rattle.vms_history_checks.specs.Bounds.{MayStandInTurn, scripts_of}
 use Rattle.vms_history_checks.specs.Leads.{Begins, LeadsOn}
 use Rattle.vms_history_checks.specs.Leads.LeadsOn.{between, here, phase}
 use Rattle.vms_history_checks.proofs.KernelAnswers.{AreAnswers-exact, AreAnswers-one, IsExact, no_size}
-use Rattle.vms_history_checks.proofs.PageRooms.{MayCross-page, online-least-page, online-most-page}
+use Rattle.vms_page_crossings.proofs.PageRooms.{MayCross-page, online-least-page, online-most-page}
 
 module _ (header : Header) (valid : IsHeader header) (pressure normal : ZoneSize → ℕ → ℕ → Type 0)
     (gives : GivesThresholds normal) (exact : IsExact normal) where

@@ -13,8 +13,7 @@ use Rattle.vms_history_checks.specs.Accepts.{IsAt, IsWholeAt}
 use Rattle.vms_history_checks.specs.Bounds.{MayStandInTurn, scripts_of}
 use Rattle.vms_history_checks.specs.Leads.{HasLed, LeadsOn}
 use Rattle.vms_history_checks.specs.Leads.LeadsOn.{here, phase}
-use Rattle.vms_history_checks.specs.Crossings.{kernel_rule}
-use Rattle.vms_history_checks.proofs.KernelAnswers.{AreAnswers-exact, IsExact}
+use Rattle.vms_history_checks.proofs.KernelAnswers.{AreAnswers-exact, IsExact, kernel_rule}
 use Rattle.vms_history_checks.proofs.TakenEvents.{InPhase}
 use Rattle.vms_history_checks.proofs.OneWay.{answers-of, boundaries-lead, led-on, length-through, phase-of_history}
 use Rattle.vms_history_checks.proofs.OneWay.{zones-of}

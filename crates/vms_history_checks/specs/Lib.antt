@@ -1,4 +1,3 @@
-pub mod Crossings
 pub mod Bounds
 pub mod Leads
 pub mod Said

@@ -1,8 +1,8 @@
-use crate::crossings::{cross, first_pages};
 use crate::{BoundaryAt, CheckError};
 use std::alloc::Global;
 use vms_base::{Header, Memory};
 use vms_core::State;
+use vms_page_crossings::{cross, first_pages};
 use vms_phase_checks::{DueEvent, EventCause, LaneWalk, PhaseCheck};
 use vms_script::PhaseScript;
 use vms_written_lines::{WideStep, WrittenLine, push_event_line, read_line};

@@ -4,7 +4,6 @@
 
 mod bounds;
 mod checks;
-mod crossings;
 mod errors;
 mod laws;
 

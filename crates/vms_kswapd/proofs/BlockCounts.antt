@@ -6,6 +6,7 @@ use Rattle.std.proofs.lemmas.Bool.{eqb-false}
 use Rattle.vms_calc.proofs.Common.{areas_from-later}
 use Rattle.vms_calls.specs.Common.{Header, ItemDecl, CounterId, PlaceId, Area, area_at, area_index, area_names}
 use Rattle.vms_calls.specs.Common.{areas_from, areas_named, areas_of, blocks_at, counter_at, Facts, Step, Extends}
+use Rattle.vms_history.proofs.Common.{Extends-same}
 use Rattle.vms_kswapd.specs.Common.{CountsBlocks}
 use Rattle.vms_kswapd.proofs.BlockSearches.{areas-next}
 use Rattle.vms_kswapd.proofs.OrderTests.{filter-contains}
@@ -66,6 +67,6 @@ module _ (header : Header) (g : PlaceId) where
     named = counts.named;
     blocks = counts.blocks;
     some = counts.some;
-    summed = sums-whole_call new mid old (blocks_at header.layout g counts.area) counts.blocks facts number since
-        counts.summed;
+    summed = sums-whole_call new new mid old (blocks_at header.layout g counts.area) counts.blocks facts number since
+        (Extends-same new.seen) counts.summed;
   }

@@ -9,7 +9,7 @@ use Rattle.vms_calls.proofs.Common.{looks-still, still-leaves, balance-each}
 use Rattle.vms_control.specs.Common.{never}
 use Rattle.vms_control.proofs.Common.{largest-grows, control-new, of-new, sums-made, SetsNothing, looks-set_nothing}
 use Rattle.vms_control.proofs.Common.{quiet-sets, SameSums, node-same}
-use Rattle.vms_kswapd.specs.Common.{NamesPassed}
+use Rattle.vms_kswapd.specs.Common.{YesPassed}
 use Rattle.vms_seats.specs.Common.{Pass, Shared, IsFrom, Made}
 use Rattle.vms_seats.proofs.Common.{calls-both}
 use Rattle.vms_words.specs.Common.{largest_sets}
@@ -96,7 +96,7 @@ module _ (words : Shared Facts) (header : Header) (pressure normal : ZoneSize �
 -- what a yes of the balance test says, it says of the whole turn
 pub names-whole : (header : Header) (new two one old : Pass Facts Step) (n : PlaceId) (order most : ℕ)
     (answer : Balance) (pressed further : List Step) → Made pages one old pressed → Made pages new two further
-    → NamesPassed header two one n order most answer → NamesPassed header new old n order most answer
+    → YesPassed header two one n order most answer → YesPassed header new old n order most answer
 names-whole header new two one old n order most (Yes g verdict) pressed further first last named = record {
   one_of = named.one_of;
   passed = named.passed;

@@ -1,11 +1,12 @@
--- What a yes of a test for an order and of a balance test says.
-use Rattle.std.specs.Prelude.{◌≡◌, ◌≢◌, ℕ, ◌≤◌, true, false, List, ◌++◌, Contains, Option, Some}
+-- What a test for an order and a balance test say.
+use Rattle.std.specs.Prelude.{◌≡◌, ◌≢◌, ℕ, ◌≤◌, true, false, List, ◌++◌, All, Contains, Option, Some}
 use Rattle.vms_calls.specs.Common.{Header, PlaceId, High, Area, areas_of, limit_of, IsSnapshot, node_number}
 use Rattle.vms_calls.specs.Common.{IsOrderTest, blocks_at, zones_up_to, Facts, Step, free_pages, pages}
-use Rattle.vms_look.specs.Common.{HasSummed, SaysTruly, SumsTruly, TellsTruly}
+use Rattle.vms_look.specs.Common.{SaysTruly, SumsTruly, TellsTruly}
 use Rattle.vms_calls.specs.declared.answers.Balance.{Balance}
 use Rattle.vms_calls.specs.declared.answers.Balance.TheVariants.{Yes, No}
 use Rattle.vms_calls.specs.declared.answers.OrderVerdict.{OrderVerdict}
+use Rattle.vms_near.specs.Balances.{FailsTruly}
 use Rattle.vms_seats.specs.Common.{Pass, Made}
 
 -- the steps end with a snapshot of the free blocks of zone g of an order or larger, and it isn't 0
@@ -51,11 +52,18 @@ pub record HasPassed (header : Header) (new old : Pass Facts Step) (n : PlaceId)
   pub tests : IsOrderTest header g High most order test verdict
   pub near : verdict.fast ≡ true → TellsTruly after before g verdict.free
   pub truly : verdict.fast ≡ true → SaysTruly after before g (limit_of header g.number High most)
-  pub summed : verdict.fast ≡ false → HasSummed after before (free_pages header.layout g) verdict.free
+  pub summed : verdict.fast ≡ false → SumsTruly after before (free_pages header.layout g) verdict.free
   pub block : order ≢ 0 → FoundBlock header g order test verdict.area
   pub counts : order ≢ 0 → CountsBlocks header after before g order verdict.area
 
 -- a yes names a zone that passed
+abbrev pub YesPassed : Header → (new old : Pass Facts Step) → PlaceId → (order most : ℕ) → Balance → Type 0
+YesPassed header new old n order most (Yes g verdict) = HasPassed header new old n order most g verdict
+YesPassed header new old n order most No = Unit {0}
+
+-- and after a no each zone of the node up to the index failed
 abbrev pub NamesPassed : Header → (new old : Pass Facts Step) → PlaceId → (order most : ℕ) → Balance → Type 0
 NamesPassed header new old n order most (Yes g verdict) = HasPassed header new old n order most g verdict
-NamesPassed header new old n order most No = Unit {0}
+NamesPassed header new old n order most No =
+    All (FailsTruly header old.facts.base new.seen old.seen old.number most order)
+    (zones_up_to header.layout most (node_number header.layout n))

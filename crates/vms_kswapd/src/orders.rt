@@ -3,7 +3,7 @@ ghost use Rattle.vms_calls.specs.Common.{area_at, areas_from, areas_of, IsHeader
 ghost use Rattle.vms_calls.specs.Common.{has_room, Step, free_pages as free_counter, pages, area_index};
 ghost use Rattle.vms_kswapd.specs.Passing.{CountsBlocks, FoundBlock};
 ghost use Rattle.vms_kswapd.specs.Seeking.{HasSought, Seeks};
-ghost use Rattle.vms_look.specs.Common.{HasSummed, SaysTruly, TellsTruly};
+ghost use Rattle.vms_look.specs.Common.{SaysTruly, SumsTruly, TellsTruly};
 ghost use Rattle.vms_seats.specs.Common.{IsFrom, Made};
 
 use vms_base::{Header, PlaceId, WaterMark};
@@ -43,7 +43,7 @@ pub fn zone_ok<P: Caller>(
     ensures truly { result.yes ≡ true → result.fast ≡ true →
         SaysTruly (P.pass pass.new) (P.pass pass.old) zone (limit_of header.now zone.number mark most) }
     ensures summed { result.fast ≡ false →
-        HasSummed (P.pass pass.new) (P.pass pass.old) (free_counter header.now.layout zone) result.free }
+        SumsTruly (P.pass pass.new) (P.pass pass.old) (free_counter header.now.layout zone) result.free }
     ensures block { result.yes ≡ true → order ≢ 0 → (steps : List Step)
         × FoundBlock header.now zone order steps result.area
         × Made pages (P.pass pass.new) (P.pass pass.old) steps }

@@ -6,14 +6,15 @@ ghost use Rattle.vms_tables.specs.Common.{AreTables, world_of};
 ghost use Rattle.vms_lane.specs.LanePasses.{AreReadyFor, HaveSpentAll, MayMakeActs, passes_in};
 ghost use Rattle.vms_lane.specs.Scripts.{MakeLines, acts_in};
 
+use crate::Host;
 use crate::lane_lines::LaneLines;
 use crate::line_runs::run_line;
 use crate::passes::LanePasses;
-use crate::{Gate, Host};
 use std::sync::Wait;
 use vms_answers::{Answer, NumberedAnswer};
 use vms_base::{Header, Memory};
 use vms_calc::{Rule, Rules};
+use vms_jobs::Gate;
 use vms_script::is_of;
 use vms_tables::Tables;
 use vms_text::Lane;

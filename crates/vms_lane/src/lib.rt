@@ -7,7 +7,6 @@ mod control_acts;
 mod control_lines;
 mod counted_lines;
 mod cpu_lines;
-mod gates;
 mod hosts;
 mod lane_lines;
 mod lane_runs;
@@ -16,7 +15,6 @@ mod page_acts;
 mod passes;
 
 pub use counted_lines::CountedLines;
-pub use gates::{Gate, OpenGate};
 pub use hosts::Host;
 pub use lane_lines::LaneLines;
 pub use lane_runs::run_lane;

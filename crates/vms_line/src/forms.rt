@@ -110,47 +110,36 @@ fn read_fields(header: &Header, verb: Verb, fields: &[&[u8]]) -> Result<Act, Lin
     requires { IsHeader header.now }
     ensures { result ≡ read_fields header.now (form_of verb).fields (map (λ word. word.now) fields.now) }
 {
-    Ok(match verb {
-        Verb::Mod => {
-            let (counter, pages) = change_fields(header, fields)?;
-            Act::Mod(counter, pages)
-        }
-        Verb::Inc => Act::Inc(paged_fields(header, fields)?),
-        Verb::Dec => Act::Dec(paged_fields(header, fields)?),
-        Verb::Ev => {
-            let (event, number) = count_fields(fields)?;
-            Act::Ev(event, number)
-        }
-        Verb::Cnt => {
-            let (counter, amount) = amount_fields(header, fields)?;
-            Act::Cnt(counter, amount)
-        }
-        Verb::Lim => {
-            let (counter, limit, amount) = limited_fields(header, fields)?;
-            Act::Lim(counter, limit, amount)
-        }
-        Verb::Cmp => {
-            let (counter, number) = number_fields(header, fields)?;
-            Act::Cmp(counter, number)
-        }
-        Verb::Sum => Act::Sum(name_fields(header, fields)?),
-        Verb::Rough => Act::Rough(name_fields(header, fields)?),
-        Verb::Csync => Act::Csync(name_fields(header, fields)?),
-        Verb::EvSum => Act::EvSum(event_fields(fields)?),
-        Verb::Fold => Act::Fold(one_cpu_fields(header, fields)?),
-        Verb::Water => {
-            let (zone, mark, index) = marked_fields(header, fields)?;
-            Act::Water(zone, mark, index)
-        }
-        Verb::Val => Act::Val(counter_fields(header, fields)?),
-        Verb::Snap => Act::Snap(counter_fields(header, fields)?),
-        Verb::Sys => Act::Sys(value_fields(header, fields)?),
-        Verb::Pressure => Act::Pressure(node_fields(header, fields)?),
-        Verb::Normal => Act::Normal(node_fields(header, fields)?),
-        Verb::Dead => Act::Dead(one_cpu_fields(header, fields)?),
-        Verb::Kswapd => {
-            let (node, order, index) = turn_fields(header, fields)?;
-            Act::Kswapd(node, order, index)
-        }
-    })
+    match verb {
+        Verb::Mod => change_fields(header, fields).map(|(counter, pages)| Act::Mod(counter, pages)),
+        Verb::Inc => paged_fields(header, fields).map(Act::Inc),
+        Verb::Dec => paged_fields(header, fields).map(Act::Dec),
+        Verb::Ev => count_fields(fields).map(|(event, number)| Act::Ev(event, number)),
+        Verb::Cnt => amount_fields(header, fields).map(|(counter, amount)| Act::Cnt(
+            counter, amount,
+        )),
+        Verb::Lim => limited_fields(header, fields).map(|(counter, limit, amount)| Act::Lim(
+            counter, limit, amount,
+        )),
+        Verb::Cmp => number_fields(header, fields).map(|(counter, number)| Act::Cmp(
+            counter, number,
+        )),
+        Verb::Sum => name_fields(header, fields).map(Act::Sum),
+        Verb::Rough => name_fields(header, fields).map(Act::Rough),
+        Verb::Csync => name_fields(header, fields).map(Act::Csync),
+        Verb::EvSum => event_fields(fields).map(Act::EvSum),
+        Verb::Fold => one_cpu_fields(header, fields).map(Act::Fold),
+        Verb::Water => marked_fields(header, fields).map(|(zone, mark, index)| Act::Water(
+            zone, mark, index,
+        )),
+        Verb::Val => counter_fields(header, fields).map(Act::Val),
+        Verb::Snap => counter_fields(header, fields).map(Act::Snap),
+        Verb::Sys => value_fields(header, fields).map(Act::Sys),
+        Verb::Pressure => node_fields(header, fields).map(Act::Pressure),
+        Verb::Normal => node_fields(header, fields).map(Act::Normal),
+        Verb::Dead => one_cpu_fields(header, fields).map(Act::Dead),
+        Verb::Kswapd => turn_fields(header, fields).map(|(node, order, index)| Act::Kswapd(
+            node, order, index,
+        )),
+    }
 }

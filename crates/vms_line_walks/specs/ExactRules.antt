@@ -6,10 +6,9 @@ use Rattle.std.proofs.lemmas.Bool.Decides.{nat_tests}
 use Rattle.std.proofs.Math.Nat.{mul-le-mul_right}
 use Rattle.vms_base.specs.Numbers.{highest_bit}
 use Rattle.vms_core.specs.Pages.{History}
-use Rattle.vms_own_acts.specs.Common.{IsHistoryFor}
+use Rattle.vms_own_acts.specs.Common.{IsHistoryFor, IsExactly}
 use Rattle.vms_own_acts.proofs.OwnRows.{acts-of_own, acts-own}
 use Rattle.vms_phase_checks.specs.Common.{IsAloneIn}
-use Rattle.vms_walks.specs.Rules.{IsExactly}
 use Rattle.vms_walks.specs.Walks.{IsWalkWithin, StandsAt}
 use Rattle.vms_walks.specs.declared.walks.Walk.{Walk}
 use Rattle.vms_walks.proofs.WalkAlong.{stands-others}

@@ -1,12 +1,13 @@
 use crate::shown_peaks::ShownPeaks;
 use vms_base::Header;
 use vms_core::Step;
+use vms_own_acts::ExactRules;
 use vms_page_registers::PageRegisters;
 use vms_phase_checks::LaneWalk;
 use vms_plans::DueStep;
 use vms_registers::Registers;
 use vms_text::{Act, Lane};
-use vms_walks::{ExactRules, Walk, fitting_lines_are_page_acts, walks_go_along};
+use vms_walks::{Walk, fitting_lines_are_page_acts, walks_go_along};
 
 /// A walk along the acts of a lane under the kernel's rules of thresholds.
 #[derive(Clone, Copy, Debug, PartialEq, Eq)]
@@ -17,7 +18,7 @@ pub struct LineWalk {
 impl LaneWalk for LineWalk {
     ghost use Rattle.vms_world.specs.Common.{normal_threshold_of, pressure_threshold_of};
     ghost use Rattle.vms_walks.specs.Walks.{IsWalkWithin, StandsAt};
-    ghost use Rattle.vms_walks.specs.Rules.{IsExactly};
+    ghost use Rattle.vms_own_acts.specs.Common.{IsExactly};
     ghost use Rattle.vms_line_walks.specs.ExactRules.{acts-by_own, exact-gives, exact-is_formula, walks-stand};
 
     ghost pressure = { IsExactly pressure_threshold_of };

@@ -1,7 +1,6 @@
 pub mod PassSteps
-pub mod StandingDiffs
+pub mod NearValues
 pub mod LookSteps
-pub mod SlackBounds
 pub mod TestMoments
 pub mod TestSteps
 pub mod TruePages

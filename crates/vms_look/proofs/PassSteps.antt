@@ -2,7 +2,7 @@
 -- told.
 use Rattle.std.proofs.Common.{◌≡◌, ℕ, ℤ, FitsSigned, w64, to_z, of_z, unsigned_abs, ap, subst, arith}
 use Rattle.std.proofs.lemmas.Int.{ints, to_z-of_z}
-use Rattle.vms_calls.specs.Common.{CounterId, Facts, Step, LoadG, pages}
+use Rattle.vms_calls.specs.Common.{CounterId, Facts, ItemId, Step, LoadG, LoadS, pages}
 use Rattle.vms_core.specs.Pages.{IsLegal}
 use Rattle.vms_core.proofs.Common.{laws-kept}
 use Rattle.vms_seats.specs.Common.{Pass, MadeOne, MakesStep}
@@ -19,6 +19,16 @@ pub value-told : (new old : Pass Facts Step) (k : CounterId) (value : ℤ) → M
 value-told new old k value one =
     let legal = subst (IsLegal old.facts) one.at.newest one.at.legal in
     let small = (laws-kept old.facts one.at.before legal.0).small.values k.number legal.2.0 in
+    let is = ap unsigned_abs legal.2.1 in
+    let fits : FitsSigned w64 value = omega (arith, ints, small, is) in
+    to_z-of_z w64 value fits
+
+-- so does the system-wide value of an item
+pub system-told : (new old : Pass Facts Step) (i : ItemId) (value : ℤ) → MadeOne pages new old (LoadS i value)
+    → to_z w64 (of_z w64 value) ≡ value
+system-told new old i value one =
+    let legal = subst (IsLegal old.facts) one.at.newest one.at.legal in
+    let small = (laws-kept old.facts one.at.before legal.0).small.systems i.number legal.2.0 in
     let is = ap unsigned_abs legal.2.1 in
     let fits : FitsSigned w64 value = omega (arith, ints, small, is) in
     to_z-of_z w64 value fits

@@ -8,10 +8,14 @@ use Rattle.vms_calls.specs.Common.{state_after, Extends}
 use Rattle.vms_core.specs.Pages.{IsLegal}
 use Rattle.vms_core.proofs.Common.{counter_at-first, first-known, marks-stand_between}
 use Rattle.vms_history.proofs.Common.{Extends-both, base_can_begin}
-use Rattle.vms_look.specs.Common.{IsNear, LoadsBetween, SaysTruly, TellsTruly, slack_at, slack_of}
+use Rattle.vms_look.specs.Common.{SaysTruly, TellsTruly}
+use Rattle.vms_near.specs.Slack.{IsTold, slack_at, slack_of}
+use Rattle.vms_near.specs.Tests.{LoadsBetween}
 use Rattle.vms_look.proofs.PassSteps.{step-at_first, value-told}
-use Rattle.vms_look.proofs.SlackBounds.{values-near}
+use Rattle.vms_near.proofs.SlackBounds.{values-tell}
 use Rattle.vms_look.proofs.TruePages.{marks-keep_high, no_marks-keep_limit}
+use Rattle.vms_near.specs.Near.{TellsNearly}
+use Rattle.vms_near.proofs.ByValue.{values-tell_nearly}
 use Rattle.vms_seats.specs.Common.{Pass, MadeOne, MakesStep}
 
 -- where there is no doubt the two loads told the same, and the value isn't below a mark
@@ -57,11 +61,10 @@ module _ (g : PlaceId) (k : CounterId) (third two one old : Pass Facts Step) (fi
       (step-at_first third two old (LoadM g second.mark second.number) (made_value.all.facts ∙ made_first.all.facts)
       (made_value.all.number ∙ made_first.all.number) made_second))
 
-  abbrev between : LoadsBetween third old g first loaded_value.before
+  abbrev between : LoadsBetween old.facts.layout third.seen old.seen old.number g first value loaded_value.before
   between = record {
     first = loaded_first.before;
     last = loaded_second.before;
-    value = value;
     begins = loaded_first.others.extends;
     marks = subst (Extends loaded_value.before) loaded_first.newest loaded_value.others.extends;
     loads = subst (Extends loaded_second.before) loaded_value.newest loaded_second.others.extends;
@@ -87,6 +90,7 @@ module _ (g : PlaceId) (k : CounterId) (third two one old : Pass Facts Step) (fi
   says_truly : (limit : ℕ) → limit < free → SaysTruly third old g limit
   says_truly limit more = record {
     mark = first;
+    value = value;
     moment = loaded_value.before;
     between = between;
     legal = loaded_value.others.legal;
@@ -103,28 +107,29 @@ module _ (g : PlaceId) (k : CounterId) (third two one old : Pass Facts Step) (fi
         (subst (λ (n : ℕ). limit < n) answers more));
   }
 
-  free_near : IsNear old.facts loaded_value.before (counter_at old.facts.layout g.number 0) free
+  free_near : IsTold old.facts loaded_value.before (counter_at old.facts.layout g.number 0) free
       (slack_of (size_at old.facts.sizes g.number) first.mark)
   free_near =
       let counter = counter_at old.facts.layout g.number 0 in
       let layout = (base_can_begin pages old.facts loaded_value.before loaded_value.others.legal).layout in
       let place : place_of old.facts.layout counter ≡ g.number = counter_at-first old.facts.layout layout g.number in
-      let near = values-near old.facts loaded_value.before counter loaded_value.others.legal
+      let near = values-tell old.facts loaded_value.before loaded_value.others.legal counter
       (first-known old.facts.layout layout g.number (omega (arith, zone)))
       (subst (IsZone old.facts.layout) (sym place) zone) in
-      let told : IsNear old.facts loaded_value.before counter free
+      let told : IsTold old.facts loaded_value.before counter free
       (slack_at old.facts loaded_value.before (place_of old.facts.layout counter)) =
-      subst (λ (n : ℕ). IsNear old.facts loaded_value.before counter n
+      subst (λ (n : ℕ). IsTold old.facts loaded_value.before counter n
       (slack_at old.facts loaded_value.before (place_of old.facts.layout counter)))
       (ap at_least_zero value_stood ∙ sym answers) near in
-      subst (λ (m : ℕ). IsNear old.facts loaded_value.before counter free
+      subst (λ (m : ℕ). IsTold old.facts loaded_value.before counter free
       (slack_of (size_at old.facts.sizes g.number) m)) stands.mark
-      (subst (λ (n : ℕ). IsNear old.facts loaded_value.before counter free (slack_at old.facts loaded_value.before n))
+      (subst (λ (n : ℕ). IsTold old.facts loaded_value.before counter free (slack_at old.facts loaded_value.before n))
       place told)
 
   tells_truly : TellsTruly third old g free
   tells_truly = record {
     mark = first;
+    value = value;
     moment = loaded_value.before;
     between = between;
     told = answers;
@@ -132,25 +137,29 @@ module _ (g : PlaceId) (k : CounterId) (third two one old : Pass Facts Step) (fi
     stands = stands;
     above = loads-told.2;
     near = free_near;
+    nearly =
+        let layout = (base_can_begin pages old.facts loaded_value.before loaded_value.others.legal).layout in
+        subst (TellsNearly old.facts loaded_value.before (counter_at old.facts.layout g.number 0)) value_stood
+        (values-tell_nearly old.facts loaded_value.before loaded_value.others.legal
+        (counter_at old.facts.layout g.number 0)
+        (first-known old.facts.layout layout g.number (omega (arith, zone))));
   }
 
   pub tells_and_says : TellsTruly third old g free × ((limit : ℕ) → limit < free → SaysTruly third old g limit)
   tells_and_says = (tells_truly, says_truly)
 
 -- loads that other steps of the call come before and after
-abbrev between-whole_call : (new last first old : Pass Facts Step) (g : PlaceId) (mark : MarkRead) (moment : History)
-    → Extends first.seen old.seen → Extends new.seen last.seen
-    → LoadsBetween last (record first { facts = old.facts; number = old.number }) g mark moment
-    → LoadsBetween new old g mark moment
-between-whole_call new last first old g mark moment since until loads = record {
+abbrev between-whole_call : (facts : Facts) (p : ℕ) (new last first old : History) (g : PlaceId) (mark : MarkRead)
+    (value : ℤ) (moment : History) → Extends first old → Extends new last
+    → LoadsBetween facts.layout last first p g mark value moment → LoadsBetween facts.layout new old p g mark value moment
+between-whole_call facts p new last first old g mark value moment since until loads = record {
   first = loads.first;
   last = loads.last;
-  value = loads.value;
-  begins = Extends-both loads.first first.seen old.seen loads.begins since;
+  begins = Extends-both loads.first first old loads.begins since;
   marks = loads.marks;
   loads = loads.loads;
-  marks_again = Extends-both new.seen last.seen
-      (record { caller = old.number; step = LoadM g mark.mark mark.number } ∷ loads.last)
+  marks_again =
+      Extends-both new last (record { caller = p; step = LoadM g mark.mark mark.number } ∷ loads.last)
       until loads.marks_again;
 }
 
@@ -164,13 +173,16 @@ tells-whole_call new last first old g free facts number since until tells =
     (subst (λ (f : Facts). TellsTruly last (record first { facts = f }) g free) facts tells) in
     record {
       mark = at_first.mark;
+      value = at_first.value;
       moment = at_first.moment;
-      between = between-whole_call new last first old g at_first.mark at_first.moment since until at_first.between;
+      between = between-whole_call old.facts old.number new.seen last.seen first.seen old.seen g at_first.mark
+          at_first.value at_first.moment since until at_first.between;
       told = at_first.told;
       legal = at_first.legal;
       stands = at_first.stands;
       above = at_first.above;
       near = at_first.near;
+      nearly = at_first.nearly;
     }
 
 -- what a test says that other steps of the call come before and after
@@ -183,8 +195,10 @@ truly-whole_call new last first old g limit facts number since until says =
     (subst (λ (f : Facts). SaysTruly last (record first { facts = f }) g limit) facts says) in
     record {
       mark = at_first.mark;
+      value = at_first.value;
       moment = at_first.moment;
-      between = between-whole_call new last first old g at_first.mark at_first.moment since until at_first.between;
+      between = between-whole_call old.facts old.number new.seen last.seen first.seen old.seen g at_first.mark
+          at_first.value at_first.moment since until at_first.between;
       legal = at_first.legal;
       stands = at_first.stands;
       marked = at_first.marked;

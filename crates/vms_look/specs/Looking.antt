@@ -1,9 +1,7 @@
 -- What the parts of a look found while others act.
-use Rattle.std.specs.Prelude.{◌≡◌, ℕ, ◌*◌, ◌≤◌, Bool, not, ℤ, pos, ◌-ℤ◌, unsigned_abs, List, [], ◌∷◌, ◌++◌}
+use Rattle.std.specs.Prelude.{◌≡◌, ℕ, Bool, not, ℤ, pos, List, ◌∷◌}
 use Rattle.vms_calls.specs.Common.{CounterId, CpuId, PlaceId, Shape, group_of, Frees, Look, free_pages, is_doubtful}
 use Rattle.vms_calls.specs.Common.{look_steps, online, other, MarkRead, Facts, Step, LoadG, LoadM, entry, pages}
-use Rattle.vms_calls.specs.Common.{History, state_after, Extends}
-use Rattle.vms_look.specs.SnapshotTotals.{AllLeaveDiffs, EndsWithStep, online_diff, online_looks}
 use Rattle.vms_seats.specs.Common.{Pass, Made}
 
 -- the differential for counter k that a look found: 0 where the CPU is not online
@@ -11,19 +9,11 @@ abbrev pub found_at : ℕ → Look → ℤ
 found_at k (online w) = entry w.values k
 found_at k (other x differs) = pos 0
 
--- the pass looked at a CPU, whose differential for a counter it found so; `since` is what all callers made meanwhile.
--- What it found is within 250 of what stood at any earlier moment, and where the CPU isn't online it is that.
+-- the pass looked at a CPU, whose differential for a counter it found so
 pub record HasLooked (new old : Pass Facts Step) (k : CounterId) (c : CpuId) (found : ℤ) : Type 0 where
   pub look : Look
   pub tells : found ≡ found_at k.number look
   pub made : Made pages new old (look_steps (group_of k.number) c.number look)
-  pub since : History
-  pub grew : new.seen ≡ since ++ old.seen
-  pub ends : EndsWithStep old.number new.seen
-  pub apart : (earlier : History) → Extends old.seen earlier →
-      unsigned_abs (found -ℤ online_diff (state_after old.facts earlier) k.number c.number)
-      ≤ 250 * online_looks (look ∷ [])
-  pub stood : AllLeaveDiffs k.number since → found ≡ online_diff (state_after old.facts old.seen) k.number c.number
 
 -- the pass loaded a zone's drift mark before and after its free pages, and took a snapshot of them where there was
 -- doubt

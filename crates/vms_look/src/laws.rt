@@ -2,8 +2,8 @@ ghost use Rattle.vms_calls.specs.Common.{Facts, Step, History, KeepsLaws, Bounds
 ghost use Rattle.vms_calls.specs.Common.{BoundsDifferentials, KeepsSystemTotals, KeepsTotals, BoundsByPeaks};
 ghost use Rattle.vms_calls.specs.Common.{KeepsPeaksInRange};
 ghost use Rattle.vms_core.specs.Pages.{IsLegal};
-ghost use Rattle.vms_look.specs.Slack.{BoundsByMarks};
-ghost use Rattle.vms_look.specs.Truth.{AtEachMoment, MarksKeepHigh, NoMarksKeepLimit, ValuesAreNear};
+ghost use Rattle.vms_near.specs.Slack.{BoundsByMarks, ValuesTell};
+ghost use Rattle.vms_look.specs.Truth.{AtEachMoment, MarksKeepHigh, NoMarksKeepLimit};
 ghost use Rattle.vms_seats.specs.Common.{Pass};
 
 use vms_words::{Caller, ControlPass, CpuPass, MainPass};
@@ -23,7 +23,7 @@ pub fn values_tell_true_pages()
 /// much, with the slack and the positive amounts carried.
 pub fn marks_bound_zones()
     ensures bounds { (facts : Facts) (h : History) → IsLegal facts h → BoundsByMarks facts h }
-    ensures near { ValuesAreNear }
+    ensures near { (facts : Facts) (h : History) → IsLegal facts h → ValuesTell facts h }
 {}
 
 /// A pass of the page counters: one that owns a CPU, the control pass or the main pass.

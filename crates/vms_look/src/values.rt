@@ -3,32 +3,37 @@ ghost use Rattle.vms_calls.specs.Common.{is_online as tells_online, IsCounter, I
 ghost use Rattle.vms_calls.specs.Common.{IsSystemValue, at_least_zero, Step, pages};
 ghost use Rattle.vms_look.specs.Looking.{HasLooked};
 ghost use Rattle.vms_look.specs.SnapshotTotals.{SumsTruly};
+ghost use Rattle.vms_look.specs.Truth.{LoadsTruly, SystemLoadsTruly};
 ghost use Rattle.vms_seats.specs.Common.{IsFrom, Made};
 
 use vms_base::{CounterId, CpuId, CpuState, ItemId};
 use vms_words::{Caller, PageTable};
 
 /// The global value of a counter, in pages, and 0 where it is negative (`zone_page_state` of include/linux/vmstat.h and
-/// `node_page_state_pages` of mm/vmstat.c).
+/// `node_page_state_pages` of mm/vmstat.c). It is as near the counter's true total at the moment of its load as the CPUs
+/// can hide and as is in flight.
 #[inline]
 pub fn place_value<P: Caller>(table: &PageTable, pass: &mut P, counter: CounterId) -> u64
     requires table { IsFrom (P.pass pass.old) table.now }
     requires counter { IsCounter table.now.facts.layout counter.number }
     ensures made { (steps : List Step) × IsPlaceValue counter steps result
         × Made pages (P.pass pass.new) (P.pass pass.old) steps }
+    ensures truly { LoadsTruly (P.pass pass.new) (P.pass pass.old) counter result }
     ensures volume { P.volume pass.new ≡ P.volume pass.old }
 {
     clamped(table.load_place(pass, counter))
 }
 
 /// The system-wide value of an item, in pages, and 0 where it is negative (`global_zone_page_state` and
-/// `global_node_page_state_pages` of include/linux/vmstat.h).
+/// `global_node_page_state_pages` of include/linux/vmstat.h). It is as near the item's true total at the moment of its
+/// load as the CPUs can hide of it and as is in flight of it.
 #[inline]
 pub fn system_value<P: Caller>(table: &PageTable, pass: &mut P, item: ItemId) -> u64
     requires table { IsFrom (P.pass pass.old) table.now }
     requires item { IsItem table.now.facts.layout item.number }
     ensures made { (steps : List Step) × IsSystemValue item steps result
         × Made pages (P.pass pass.new) (P.pass pass.old) steps }
+    ensures truly { SystemLoadsTruly (P.pass pass.new) (P.pass pass.old) item result }
     ensures volume { P.volume pass.new ≡ P.volume pass.old }
 {
     clamped(table.load_system(pass, item))
@@ -39,8 +44,9 @@ pub fn system_value<P: Caller>(table: &PageTable, pass: &mut P, item: ItemId) ->
 /// value is loaded first, and then CPU after CPU, so it need not be the value at any one moment.
 ///
 /// Whatever others do meanwhile, the sum with what callers carry and what dead CPUs hide at the load of the global
-/// value is within 250 pages for each CPU found online of the counter's true total then. Where no caller puts to the
-/// counter or takes its group meanwhile, it is that total.
+/// value is off from the counter's true total then by at most what moves at the CPUs found online, each until its look.
+/// So it is exact where nothing moves. It is off by at most what these CPUs may hide then and at their looks, 125 pages
+/// each at most. What is returned is as near the true total as the value, but for what they may hide at their looks.
 pub fn snapshot<P: Caller>(table: &PageTable, pass: &mut P, counter: CounterId) -> u64
     requires table { IsFrom (P.pass pass.old) table.now }
     requires counter { IsCounter table.now.facts.layout counter.number }

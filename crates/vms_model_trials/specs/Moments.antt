@@ -4,7 +4,8 @@ use Rattle.vms_calls.specs.Common.{Facts, History, Look, acknowledged_at, carrie
 use Rattle.vms_calls.specs.Common.{state_after, system_at, threshold_sets_at, true_total, value_at}
 use Rattle.vms_core.specs.Drift.{carried_sizes}
 use Rattle.vms_core.specs.Totals.{true_total_of_item}
-use Rattle.vms_look.specs.Common.{hidden_by_dead, positive_carried, slack_at}
+use Rattle.vms_look.specs.Common.{positive_carried, slack_at}
+use Rattle.vms_near.specs.Snapshots.{hidden_by_dead}
 
 -- their value and their true total, the slack of the zone and the sizes of what is carried for them
 pub record Stands (facts : Facts) (h : History) (value total : ℤ) (slack carried : ℕ) : Type 0 where

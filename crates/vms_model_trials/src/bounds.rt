@@ -7,17 +7,17 @@ ghost use Rattle.vms_drift.specs.NewestThresholds.{online_cpus, online_threshold
 ghost use Rattle.vms_drift.specs.PresentCpus.{most_hidden, parts_of, present_cpus};
 ghost use Rattle.vms_drift.specs.RatedMarks.{raised_thresholds};
 ghost use Rattle.vms_drift.specs.Transit.{most_carried, most_carried_of_item};
-ghost use Rattle.vms_look.specs.Common.{hidden_by_dead, online_looks};
 ghost use Rattle.vms_model_trials.specs.Machines.{four_cpus, size, sized, with_dead, with_narrow_gap, with_two_zones};
 ghost use Rattle.vms_model_trials.specs.Moments.{Acknowledged, HasLeast, HasMost, Stands, StandsInAll, snapshot_error};
 ghost use Rattle.vms_model_trials.specs.Stories.{AreLists, after_lines, free, list_of};
+ghost use Rattle.vms_near.specs.Snapshots.{hidden_by_dead, online_looks};
 
 use crate::stories::{FOUR_ONLINE, NARROW_GAP, ONE_DEAD, TWO_ZONES};
 
 /// A zone's free pages are as far from the truth as its slack and what is carried allow. Under the mark of 650 four
 /// CPUs hide 125 pages each, and 125 more are carried: 1,000 is told of 1,625. Under no mark they hide 24, the pages
 /// between `min` and `low`. A dead CPU hides its part, until it is absent and the mark is 210.
-fn slack_is_reached()
+pub fn slack_is_reached()
     ensures lists { AreLists }
     ensures hidden { (l : AreLists) → Stands four_cpus (after_lines l FOUR_ONLINE 17) (pos 1000) (pos 1500) 500 0 }
     ensures carried { (l : AreLists) → Stands four_cpus (after_lines l FOUR_ONLINE 23) (pos 1000) (pos 1625) 500 125 }
@@ -31,7 +31,7 @@ fn slack_is_reached()
 /// Four tests by the value are as far from the truth as may be, on either side: a yes that tells 1,000 pages of 1,500,
 /// one that tells 1,125 of 625, a yes under no mark that tells 624 of 600, and a no for `low` that tells 104 of 128,
 /// though 128 is more than `low`. So are the values beside which pages are carried.
-fn tests_reach_both_bounds()
+pub fn tests_reach_both_bounds()
     ensures yes_with_more { (l : AreLists) → HasMost four_cpus (after_lines l FOUR_ONLINE 18) 1000 }
     ensures yes_with_less { (l : AreLists) → HasLeast four_cpus (after_lines l FOUR_ONLINE 39) 1125 }
     ensures unmarked_with_more { (l : AreLists) → HasMost four_cpus (after_lines l FOUR_ONLINE 93) 624 }
@@ -43,7 +43,7 @@ fn tests_reach_both_bounds()
 
 /// A snapshot is 1,000 pages from the truth where each of four CPUs goes from 125 to -125 before it is looked at, 250
 /// pages for each. Where nobody changes anything it is the truth, with what a dead CPU hides.
-fn snapshots_reach_their_bound()
+pub fn snapshots_reach_their_bound()
     ensures looked { (l : AreLists) → 250 * online_looks (online (list_of l (negsuc 124))
         ∷ online (list_of l (negsuc 124)) ∷ online (list_of l (negsuc 124)) ∷ online (list_of l (negsuc 124)) ∷ [])
         ≡ 1000 }
@@ -61,7 +61,7 @@ fn snapshots_reach_their_bound()
 
 /// The bound by the CPUs that are present is reached: four CPUs hide 500 pages of a counter, and 1,000 of an item that
 /// two zones have. A CPU that is absent counts no more.
-fn present_bound_is_reached()
+pub fn present_bound_is_reached()
     ensures four { (l : AreLists) →
         most_hidden four_cpus.layout (state_after four_cpus (after_lines l FOUR_ONLINE 17)) ≡ 500 }
     ensures system { (l : AreLists) → StandsInAll four_cpus (after_lines l FOUR_ONLINE 17) (pos 1000) (pos 1500) }
@@ -78,7 +78,7 @@ fn present_bound_is_reached()
 /// Once each CPU acknowledged the threshold of 6, the thresholds that stand bound the free pages, and four CPUs reach
 /// them with 24 pages. Before, the same thresholds stand and 313 pages are hidden. Where fewer pages than CPUs are
 /// between `min` and `low`, each CPU may hide one.
-fn newest_thresholds_are_reached()
+pub fn newest_thresholds_are_reached()
     ensures first { (l : AreLists) → Acknowledged four_cpus (after_lines l FOUR_ONLINE 81) 0 }
     ensures second { (l : AreLists) → Acknowledged four_cpus (after_lines l FOUR_ONLINE 81) 1 }
     ensures third { (l : AreLists) → Acknowledged four_cpus (after_lines l FOUR_ONLINE 81) 2 }
@@ -104,7 +104,7 @@ fn newest_thresholds_are_reached()
 
 /// Inside a change by one page a pass carries 188 pages, its size and 187. Inside a fold it carries 125 of a counter,
 /// and 250 of an item that two zones have.
-fn carried_amounts_are_reached()
+pub fn carried_amounts_are_reached()
     ensures change { (l : AreLists) → carried 0 (own (after_lines l FOUR_ONLINE 51) 1) ≡ negsuc 187 }
     ensures most_of_change { most_carried (Change free (negsuc 0) Dec) 0 ≡ 188 }
     ensures change_of_item { (l : AreLists) →
@@ -122,7 +122,7 @@ fn carried_amounts_are_reached()
 /// A visit by the rule for pressure leaves the mark 270: Linux's for the normal threshold of 30 on four CPUs, which
 /// covers the 24 pages that they may hide once they acknowledged thresholds of 6. While thresholds of 125 stand they
 /// may hide 500, and the mark stays at 650.
-fn marks_come_to_stand()
+pub fn marks_come_to_stand()
     ensures normal { normal_threshold_of size 4 ≡ 30 }
     ensures linux { linux_mark_of size 4 30 ≡ 270 }
     ensures lowered { (l : AreLists) → raised_thresholds four_cpus (after_lines l FOUR_ONLINE 81) 0 6 ≡ 24 }

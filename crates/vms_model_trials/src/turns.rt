@@ -6,14 +6,14 @@ ghost use Rattle.vms_calls.specs.declared.answers.Balance.TheVariants.{Yes, No};
 
 /// Of a zone without a mark, with 30 pages between `min` and `low`, the control pass may set the threshold of 20 to 5
 /// and not to 31.
-fn covered_threshold_may_be_set()
+pub fn covered_threshold_may_be_set()
     ensures covered { MayMake one_zone 2 both_begun (SetT cpu zone 5 ∷ []) }
     ensures uncovered { MayMake one_zone 2 both_begun (SetT cpu zone 31 ∷ []) → ⊥ }
 {}
 
 /// A zone with 190 free pages and a high watermark of 160 is balanced for single pages. For blocks of 8 it is so where
 /// one of 16 is free, and for blocks of 64 it isn't, since 127 pages are left beside one.
-fn turns_are_read()
+pub fn turns_are_read()
     ensures single { read_turn (header_with []) node 0 2 (one_visit ++ (one_look ++ one_visit)) ≡
         (Yes zone (record { yes = true; free = 190; fast = true; area = None }), []) }
     ensures no_block { read_turn (header_with []) node 3 2 (one_visit ++ one_look) ≡ (No, []) }
@@ -23,7 +23,7 @@ fn turns_are_read()
 {}
 
 /// Blocks of 8 pages are looked for before those of 32, though the item of those of 32 is declared first.
-fn smaller_area_comes_first()
+pub fn smaller_area_comes_first()
     ensures { areas_from 3 (areas_of (zone_item (codes "area5") ∷ zone_item (codes "area3") ∷ [])) ≡
         record { order = 3; position = 9 } ∷ record { order = 5; position = 8 } ∷ [] }
 {}

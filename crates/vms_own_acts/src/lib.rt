@@ -2,5 +2,7 @@
 #![tactic(auto)]
 
 mod laws;
+mod rules;
 
 pub use laws::{acts_are_cut_one_way, acts_go_by_own_events};
+pub use rules::{ExactRules, RuleFunctions};

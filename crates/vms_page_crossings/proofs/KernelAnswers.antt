@@ -2,7 +2,7 @@
 use Rattle.std.proofs.Common.{◌≡◌, ℕ, ◌≤◌, List, get_or, arith, subst}
 use Rattle.std.specs.Prelude.{Result, Ok, Err, IfOk}
 use Rattle.std.proofs.lemmas.List.Elements.{All-get_or}
-use Rattle.vms_walks.specs.Rules.{IsExactly}
+use Rattle.vms_own_acts.specs.Common.{IsExactly}
 use Rattle.vms_world.specs.Common.{AreAnswers, Header, IsHeader, IsValidSize, IsZone, Memory, State, ZoneSize}
 use Rattle.vms_world.specs.Common.{bare_pages, count_online, normal_threshold_of, refreshed, size_at}
 use Rattle.vms_page_crossings.specs.Crossings.{GoesByKernel}

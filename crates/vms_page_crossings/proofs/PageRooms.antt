@@ -1,4 +1,4 @@
--- Page counters of a start have room for what a boundary line makes of them.
+-- For other crates too: page counters of a start have room for what a boundary line makes of them.
 use Rattle.std.proofs.Common.{◌≡◌, ℕ, ◌^◌, ◌<◌, ◌≤◌, length, sym, subst}
 use Rattle.std.specs.Prelude.{Ok}
 use Rattle.vms_text.specs.declared.acts.Boundary.{Boundary as BoundaryOf}

@@ -2,7 +2,7 @@
 use Rattle.std.specs.Prelude.{◌≡◌, ℕ, ◌≤◌, Ok}
 use Rattle.vms_text.specs.declared.acts.Boundary.{Boundary as BoundaryOf}
 use Rattle.vms_text.specs.declared.acts.Line.TheVariants.{Boundary}
-use Rattle.vms_walks.specs.Rules.{IsExactly}
+use Rattle.vms_own_acts.specs.Common.{IsExactly}
 use Rattle.vms_world.specs.Common.{Header, IsLineOf, IsValidSize, Start, State, ZoneSize, allowed_from}
 use Rattle.vms_world.specs.Common.{normal_threshold_of}
 use Rattle.vms_written_states.specs.PageStarts.{IsPageStart}

@@ -1,6 +1,6 @@
 ghost use Rattle.std.specs.Prelude.{◌≡◌, ℕ, List, IfOk};
 ghost use Rattle.vms_text.specs.declared.acts.Boundary.TheVariants.{Online};
-ghost use Rattle.vms_walks.specs.Rules.{IsExactly};
+ghost use Rattle.vms_own_acts.specs.Common.{IsExactly};
 ghost use Rattle.vms_world.specs.Common.{AreAnswers, IsHeader, IsThresholdRule, bare_pages, normal_threshold_of};
 ghost use Rattle.vms_world.specs.Common.{refreshed};
 ghost use Rattle.vms_written.specs.Common.{CrossesPages};

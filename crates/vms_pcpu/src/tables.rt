@@ -58,15 +58,7 @@ impl PcpuTable {
             ≡ record { layout = layout.now; cpus = cpus.now; base = base.now }) }
         ensures main { IfOk result (λ made. IsFrom made.1 made.0 × (made.1.seen ≡ [])) }
     {
-        let facts = PcpuFacts {
-            layout: layout.copied(),
-            cpus: Row::from_slice(alloc, cpus)?,
-            base: PcpuState {
-                batch: Row::from_slice(alloc, base.batch.as_slice())?,
-                count: Row::from_slice(alloc, base.count.as_slice())?,
-                local: Row::from_slice(alloc, base.local.as_slice())?,
-            },
-        };
+        let facts = opening_facts(alloc, layout, base, cpus)?;
         let present = count_present(facts.cpus.as_slice());
         let first = opening_words(alloc, &facts)?;
         let (words, main) = Words::make(alloc, &facts, first.as_slice())?;
@@ -126,6 +118,31 @@ impl PcpuTable {
         };
         closing.leave()
     }
+}
+
+/// What a phase on the percpu counters begins with.
+fn opening_facts(
+    alloc: Global,
+    layout: &Layout,
+    base: &PcpuState,
+    cpus: &[CpuState],
+) -> Result<PcpuFacts, Memory>
+    ensures { IfOk result (λ facts. facts
+        ≡ record { layout = layout.now; cpus = cpus.now; base = base.now }) }
+{
+    let cpus = Row::from_slice(alloc, cpus)?;
+    let batch = Row::from_slice(alloc, base.batch.as_slice())?;
+    let count = Row::from_slice(alloc, base.count.as_slice())?;
+    let local = Row::from_slice(alloc, base.local.as_slice())?;
+    Ok(PcpuFacts {
+        layout: layout.copied(),
+        cpus,
+        base: PcpuState {
+            batch,
+            count,
+            local,
+        },
+    })
 }
 
 /// How many CPUs are online or dead.

@@ -11,7 +11,8 @@ use std::sync::Wait;
 use vms_answers::NumberedAnswer;
 use vms_base::{CpuId, Header, Memory};
 use vms_calc::{Rule, Rules};
-use vms_lane::{Gate, Host, LaneLines, LanePasses, run_lane};
+use vms_jobs::Gate;
+use vms_lane::{Host, LaneLines, LanePasses, run_lane};
 use vms_tables::{MainPasses, Tables};
 use vms_text::Lane;
 

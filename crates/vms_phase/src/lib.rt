@@ -38,5 +38,6 @@ pub use rule_laws::lanes_make_phases_by;
 pub use runs::{join_run_jobs, joined_lanes_are_made, run_lanes};
 pub use threads::run_jobs;
 pub use turns::{fresh_cpus_have_spent_nothing, lanes_begin_in_turn, lanes_end_in_turn};
-pub use vms_lane::{Gate, Host, OpenGate};
+pub use vms_jobs::{Gate, OpenGate};
+pub use vms_lane::Host;
 pub use volumes::keep_volumes;

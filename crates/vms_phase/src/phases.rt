@@ -4,7 +4,7 @@ ghost use Rattle.vms_world.specs.Common.{IsHeader, Fits, Start, lanes_of, left_b
 ghost use Rattle.vms_file_order.specs.Common.{MakeInAnyOrder, IsStartOf};
 ghost use Rattle.vms_phase.specs.JoinedLanes.{HaveJoinedLanes};
 ghost use Rattle.vms_phase.specs.SideBySide.{HaveFactsOf, histories_of};
-ghost use Rattle.vms_tables.specs.Common.{mains_of, AreMadeFrom, AreTables};
+ghost use Rattle.vms_tables.specs.Common.{mains_of, AreFrom, AreMadeFrom, AreTables, HaveSeenNothing};
 
 use crate::closings::ClosedHistories;
 use crate::lane_joins::JoinedLane;
@@ -20,7 +20,8 @@ use std::thread::Threads;
 use vms_answers::LaneAnswers;
 use vms_base::{Header, Memory};
 use vms_calc::{Rule, Rules};
-use vms_lane::{Gate, Host};
+use vms_jobs::Gate;
+use vms_lane::Host;
 use vms_script::PhaseScript;
 use vms_tables::{MainPasses, Tables};
 use vms_world::World;
@@ -60,9 +61,39 @@ pub fn run_phase<G: Gate, R: Threads + Wait + Sync, N: Rule + Sync, P: Rule + Sy
     ensures places { IfOk result (λ done. All (λ item. HasPlace done.lanes.items item.lane) script.now) }
 {
     let host = Host { rt, alloc, gate };
-    let (tables, mut mains) = Tables::make(alloc, header, &world)?;
-    let lanes = run_lanes(&host, header, &tables, rules, &mut mains, &world, script)?;
-    end_phase(alloc, header, rules, tables, mains, world, script, lanes)
+    let (tables, mains) = Tables::make(alloc, header, &world)?;
+    run_over(&host, header, rules, tables, mains, world, script)
+}
+
+/// Runs the lines over the tables that were made of the world.
+fn run_over<G: Gate, R: Threads + Wait + Sync, N: Rule + Sync, P: Rule + Sync>(
+    host: &Host<'_, R, G>,
+    header: &Header,
+    rules: &Rules<N, P>,
+    tables: Tables,
+    mut mains: MainPasses,
+    world: World,
+    script: &PhaseScript,
+) -> Result<PhaseDone, Memory>
+    requires header { IsHeader header.now }
+    requires tables { AreTables header.now tables }
+    requires made { AreMadeFrom world tables }
+    requires of { AreFrom tables (mains_of mains) }
+    requires nothing { HaveSeenNothing (mains_of mains) }
+    requires start { (start : Start) × IsStartOf header.now start world × Fits header.now start script.now }
+    ensures phase { IfOk result (λ done. MakeInAnyOrder header.now (P.answers rules.now.pressure)
+        (N.answers rules.now.normal) world script.now (histories_of done.histories)) }
+    ensures facts { IfOk result (λ done. HaveFactsOf header.now world done.histories) }
+    ensures world { IfOk result (λ done. done.world
+        ≡ left_by header.now world script.now (histories_of done.histories)) }
+    ensures answers { IfOk result (λ done. answers_of header.now world script.now (histories_of done.histories)
+        ≡ merged script.now (told_by done.lanes.items)) }
+    ensures places { IfOk result (λ done. All (λ item. HasPlace done.lanes.items item.lane) script.now) }
+{
+    let lanes = run_lanes(host, header, &tables, rules, &mut mains, &world, script)?;
+    end_phase(
+        host.alloc, header, rules, tables, mains, world, script, lanes,
+    )
 }
 
 /// Ends a phase whose lanes have ended: closes its tables, and writes into the world that it began with how they and

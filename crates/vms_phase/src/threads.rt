@@ -8,8 +8,8 @@ use std::sync::Wait;
 use std::thread::Threads;
 use vms_base::{Header, Memory};
 use vms_calc::{Rule, Rules};
-use vms_jobs::map_jobs;
-use vms_lane::{Gate, Host};
+use vms_jobs::{Gate, map_jobs};
+use vms_lane::Host;
 use vms_tables::Tables;
 
 /// Makes the lines of jobs side by side: those of the first on this thread, and those of each other one on a thread of

@@ -40,7 +40,7 @@ use Rattle.vms_file_order.proofs.FittingLines.{MayFollow-opening}
 use Rattle.vms_file_order.proofs.PhaseVolumes.{GrowsBy-lines}
 use Rattle.vms_plain_control.specs.PageCalls.{FitsPageCall, HasAllForCall, MaySetThresholds}
 use Rattle.vms_plain_pages.specs.Common.{IsSmallState}
-use Rattle.vms_walks.specs.Rules.{IsExactly}
+use Rattle.vms_own_acts.specs.Common.{IsExactly}
 use Rattle.vms_phase_lines.specs.declared.phases.PhaseWriter.{PhaseWriter}
 use Rattle.vms_phase_lines.specs.Common.{IsWriting, lane_makes}
 use Rattle.vms_phase_lines.proofs.PhaseEnds.{IsBase-fit}

@@ -20,7 +20,7 @@ use Rattle.vms_file_order.proofs.FollowedLines.{Follow-line, StandsOpen-line}
 use Rattle.vms_call_lines.specs.Calls.{WritesCall}
 use Rattle.vms_plain_control.specs.Common.{KnowsPeaks, SetAtMost}
 use Rattle.vms_plain_control.specs.PageCalls.{AnswersPageCall, GoesOnByCall}
-use Rattle.vms_walks.specs.Rules.{IsExactly}
+use Rattle.vms_own_acts.specs.Common.{IsExactly}
 use Rattle.vms_phase_lines.specs.declared.phases.PhaseWriter.{PhaseWriter}
 use Rattle.vms_phase_lines.specs.Common.{IsWriting, event_lines, lane_makes}
 use Rattle.vms_phase_lines.proofs.EventLines.{lines-of_steps}

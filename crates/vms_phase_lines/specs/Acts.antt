@@ -3,7 +3,7 @@ use Rattle.std.specs.Prelude.{ℕ, List}
 use Rattle.vms_world.specs.Common.{Act, Header, Lane, PageSteps, State, Step, normal_threshold_of}
 use Rattle.vms_world.specs.Common.{pressure_threshold_of}
 use Rattle.vms_core.specs.Pages.{History}
-use Rattle.vms_walks.specs.Rules.{IsExactly}
+use Rattle.vms_own_acts.specs.Common.{IsExactly}
 
 -- the steps that an act may make by a lane's pass of this number, where it begins in a history of a phase from this
 -- state

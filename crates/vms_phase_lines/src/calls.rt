@@ -3,7 +3,7 @@ ghost use Rattle.vms_text.specs.Writing.{Begins};
 ghost use Rattle.vms_world.specs.Common.{IsThresholdRule, normal_threshold_of, pressure_threshold_of};
 ghost use Rattle.vms_call_lines.specs.Calls.{WritesCall};
 ghost use Rattle.vms_plain_control.specs.PageCalls.{FitsPageCall, HasAllForCall};
-ghost use Rattle.vms_walks.specs.Rules.{IsExactly};
+ghost use Rattle.vms_own_acts.specs.Common.{IsExactly};
 
 use crate::formulas::{NormalFormula, PressureFormula};
 use vms_base::{CpuId, Header, Memory};

@@ -2,7 +2,7 @@
 
 ghost use Rattle.std.specs.Prelude.{◌≤◌};
 ghost use Rattle.vms_world.specs.Common.{IsValidSize, normal_threshold_of, pressure_threshold_of};
-ghost use Rattle.vms_walks.specs.Rules.{IsExactly};
+ghost use Rattle.vms_own_acts.specs.Common.{IsExactly};
 
 use vms_base::ZoneSize;
 use vms_calc::{Rule, normal_threshold, pressure_threshold};

@@ -1,10 +1,13 @@
-ghost use Rattle.std.specs.Prelude.{◌≡◌, ◌∷◌, [], ◌++◌, IfOk, List, OnErr, OnOk};
+ghost use Rattle.std.specs.Prelude.{◌≡◌, ◌∷◌, [], ◌++◌, All, IfOk, List, OnErr, OnOk};
 ghost use Rattle.vms_text.specs.Writing.{Begins};
 ghost use Rattle.vms_core.specs.Pages.{History, state_after};
-ghost use Rattle.vms_world.specs.Common.{Header as HeaderOf, IsHeader, Item as ItemOf, State as StateOf, facts_of};
-ghost use Rattle.vms_world.specs.Common.{settled};
+ghost use Rattle.vms_world.specs.Common.{Header as HeaderOf, IsBase, IsHeader, IsLaneOf, Item as ItemOf};
+ghost use Rattle.vms_world.specs.Common.{State as StateOf, facts_of, lanes_of, settled};
+ghost use Rattle.vms_file_order.specs.Common.{opening_of, page_passes};
+ghost use Rattle.vms_plain_control.specs.Common.{KnowsPeaks};
 ghost use Rattle.vms_written_lines.specs.Spelling.{phase_line};
 ghost use Rattle.vms_phase_lines.specs.Fitting.{FitPages};
+ghost use Rattle.vms_phase_lines.specs.Lanes.{HaveBegun};
 ghost use Rattle.vms_phase_lines.specs.Lines.{event_lines};
 ghost use Rattle.vms_phase_lines.specs.Phases.{IsPhaseInOrder, IsWriting};
 
@@ -42,8 +45,21 @@ impl PhaseWriter {
             × (out.new.items ≡ out.old.items ++ (phase_line ++ event_lines h))) }
         ensures err { OnErr result (Begins out.old.items out.new.items) }
     {
-        push_phase_line(out)?;
-        let lanes = LanePasses::begin(out, alloc, header, items)?;
+        let lanes = open(out, alloc, header, items)?;
+        PhaseWriter::make(alloc, header, base, lanes)
+    }
+
+    /// Before the first line, where the passes have begun.
+    fn make(
+        alloc: Global,
+        header: &Header,
+        base: State,
+        lanes: LanePasses,
+    ) -> Result<PhaseWriter, Memory>
+        requires { IsBase (facts_of header.now base) }
+        ensures { IfOk result (λ writer. (writer.lanes ≡ lanes) × (writer.pages ≡ base)
+            × KnowsPeaks (facts_of header.now base) [] writer.peaks) }
+    {
         let peaks = Peaks::make(alloc, &header.layout, &base)?;
         Ok(PhaseWriter {
             pages: Plain::make(base),
@@ -98,6 +114,31 @@ impl PhaseWriter {
         ensures err { OnErr result (Begins out.old.items out.new.items) }
     {
         self.lanes.end(out)?;
-        Ok(self.pages.settle())
+        Ok(self.settled())
     }
+
+    /// The page counters with which the next phase begins.
+    fn settled(self) -> State
+        ensures { result ≡ settled self.pages }
+    {
+        self.pages.settle()
+    }
+}
+
+/// Appends the line that begins a phase, and those of the events that begin a pass for each lane with lines.
+fn open(
+    out: &mut Vec<u8>,
+    alloc: Global,
+    header: &Header,
+    items: &[Item],
+) -> Result<LanePasses, Memory>
+    requires header { IsHeader header.now }
+    requires items { All (λ item. IsLaneOf header.now item.lane) items.now }
+    ensures begins { IfOk result (HaveBegun header.now (lanes_of header.now.layout items.now)) }
+    ensures lines { OnOk result (out.new.items ≡ out.old.items ++ (phase_line
+        ++ event_lines (opening_of page_passes (lanes_of header.now.layout items.now)))) }
+    ensures err { OnErr result (Begins out.old.items out.new.items) }
+{
+    push_phase_line(out)?;
+    LanePasses::begin(out, alloc, header, items)
 }

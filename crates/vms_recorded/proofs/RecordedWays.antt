@@ -4,7 +4,7 @@ use Rattle.vms_core.specs.Pages.{History, state_after}
 use Rattle.vms_core.specs.Steps.{role}
 use Rattle.vms_text.specs.declared.acts.Boundary.{Boundary as BoundaryOf}
 use Rattle.vms_phase_lines.specs.Common.{IsPhaseInOrder, lane_makes}
-use Rattle.vms_walks.specs.Rules.{IsExactly}
+use Rattle.vms_own_acts.specs.Common.{IsExactly}
 use Rattle.vms_world.specs.Common.{Between, HasLanes, Header, Item, MakesLines, MayCross, Phase, Segment, State}
 use Rattle.vms_world.specs.Common.{ZoneSize, facts_of, lanes_of, normal_threshold_of, pressure_threshold_of, settled}
 use Rattle.vms_written.specs.Common.{CrossesPages, IsWrittenPhase, LeadsThrough}

@@ -2,7 +2,7 @@
 use Rattle.std.specs.Prelude.{◌≡◌, ℕ, List, [], ◌∷◌, ◌++◌}
 use Rattle.vms_core.specs.Pages.{History, state_after}
 use Rattle.vms_phase_lines.specs.Common.{IsPhaseInOrder, event_lines}
-use Rattle.vms_walks.specs.Rules.{IsExactly}
+use Rattle.vms_own_acts.specs.Common.{IsExactly}
 use Rattle.vms_world.specs.Common.{AreAnswers, Between, Header, MayCross, Phase, Segment, Start, State, bare_pages}
 use Rattle.vms_world.specs.Common.{facts_of, normal_threshold_of, refreshed, settled}
 use Rattle.vms_written.specs.Common.{CrossesPages}

@@ -3,7 +3,7 @@ ghost use Rattle.vms_core.specs.Pages.{History, state_after};
 ghost use Rattle.vms_text.specs.declared.acts.Boundary.{Boundary as BoundaryOf};
 ghost use Rattle.vms_text.specs.declared.acts.Line.TheVariants.{Boundary};
 ghost use Rattle.vms_phase_lines.specs.Common.{IsPhaseInOrder};
-ghost use Rattle.vms_walks.specs.Rules.{IsExactly};
+ghost use Rattle.vms_own_acts.specs.Common.{IsExactly};
 ghost use Rattle.vms_world.specs.Common.{AreAnswers, Between, Fits, Header, IsHeader, IsLineOf, Item, Phase, Segment};
 ghost use Rattle.vms_world.specs.Common.{Start, State, allowed_from, bare_pages, facts_of, first_start, line_of};
 ghost use Rattle.vms_world.specs.Common.{normal_threshold_of, pressure_threshold_of, refreshed, settled, start_at_end};
@@ -12,7 +12,7 @@ ghost use Rattle.vms_written.specs.Common.{CrossesPages, IsWrittenHistory};
 ghost use Rattle.vms_recorded.specs.Histories.{HasRecorded, IsRecordedHistory, history_lines, phase_lines};
 
 use vms_file_order::{PageLines, file_order_makes_lines};
-use vms_walks::ExactRules;
+use vms_own_acts::ExactRules;
 use vms_written_states::written_phases_keep_starts;
 
 /// A recorded history begins with the page counters that a run begins with. It goes on with a phase of lines that fit,

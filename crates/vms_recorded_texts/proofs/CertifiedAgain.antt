@@ -12,7 +12,7 @@ use Rattle.vms_header.specs.Common.{IsWritable, header_words, read_header, spell
 use Rattle.vms_header.proofs.Common.{HeadersReadBack-holds, header_words-few, lines_of-sentences}
 use Rattle.vms_line.specs.Laws.{LinesHaveOneSpelling}
 use Rattle.vms_command.specs.Common.{nothing_above}
-use Rattle.vms_walks.specs.Rules.{IsExactly}
+use Rattle.vms_own_acts.specs.Common.{IsExactly}
 use Rattle.vms_written.specs.Common.{IsWrittenHistory}
 use Rattle.vms_written_lines.specs.Spelling.{history_line}
 use Rattle.vms_history_checks.specs.Accepts.{events_in}

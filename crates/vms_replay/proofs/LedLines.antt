@@ -10,7 +10,8 @@ use Rattle.vms_command.specs.Common.{IsJudgedAfter, LinesAbove, nothing_above, w
 use Rattle.vms_file_order.specs.Common.{KeepAllLaws, IsStartOf}
 use Rattle.vms_file_order.proofs.Common.{MayCross-allowed, start_at_end-lines}
 use Rattle.vms_stream.specs.Common.{MayGive, at_most_one}
-use Rattle.vms_truth.specs.Common.{LinesAreTrue, WaysStayNear}
+use Rattle.vms_total_laws.specs.Common.{SumsAreTotals}
+use Rattle.vms_truth.specs.Common.{LinesAreTrue, WaysKeepWorlds, WaysStayNear}
 use Rattle.vms_script.proofs.Common.{Fits-none}
 use Rattle.vms_text.specs.declared.acts.Boundary.{Boundary as BoundaryOf}
 use Rattle.vms_text.specs.declared.acts.Line.TheVariants.{Boundary}
@@ -47,8 +48,10 @@ pub record Knows (Makes : Header → World → List Item → TableHistories → 
       → IsWorldPhase header pressure_rule normal_rule w items hs next → KeepAllLaws header w hs
   pub truth : (header : Header) (start : Start) (w : World) (items : List Item) (hs : TableHistories) (next : World)
       → Fits header start items → IsWorldPhase header pressure_rule normal_rule w items hs next
-      → LinesAreTrue header w items hs
+      → LinesAreTrue header pressure_rule normal_rule w items hs
   pub near : WaysStayNear pressure_rule normal_rule
+  pub worlds : WaysKeepWorlds pressure_rule normal_rule
+  pub sums : (header : Header) (w : World) → IsWorldOf header w → SumsAreTotals header w
   pub adds : (header : Header) (start : Start) (w : World) (items : List Item) (hs : TableHistories)
       → IsStartOf header start w → Fits header start items → Makes header w items hs → (before : List PastPhase)
       → HasPlainTotals header before w
@@ -61,7 +64,7 @@ module _ (Makes : Header → World → List Item → TableHistories → Type 0) 
     pub is : IsWorldPhase header pressure_rule normal_rule w items phase.histories
         (left_by header phase.world phase.items phase.histories)
     pub laws : KeepAllLaws header phase.world phase.histories
-    pub truth : LinesAreTrue header phase.world phase.items phase.histories
+    pub truth : LinesAreTrue header pressure_rule normal_rule phase.world phase.items phase.histories
     pub adds : (before : List PastPhase) → HasPlainTotals header before w
         → HasPlainTotals header (phase ∷ before) (left_by header phase.world phase.items phase.histories)
 
@@ -174,8 +177,8 @@ module _ (Makes : Header → World → List Item → TableHistories → Type 0) 
       is = subst (λ (v : World). IsWorldPhase header pressure_rule normal_rule v kept.items phase.histories left)
           be.from phase-is;
       laws = knows.laws header phase.world kept.items phase.histories left phase-is;
-      truth = subst (λ (xs : List Item). LinesAreTrue header phase.world xs phase.histories) (sym be.of)
-          (knows.truth header start phase.world kept.items phase.histories left led.fits phase-is);
+      truth = subst (λ (xs : List Item). LinesAreTrue header pressure_rule normal_rule phase.world xs phase.histories)
+          (sym be.of) (knows.truth header start phase.world kept.items phase.histories left led.fits phase-is);
       adds = λ before has.
           subst (λ (x : PastPhase). HasPlainTotals header (x ∷ before)
           (left_by header x.world x.items x.histories)) (made-same Makes header kept.world kept.items phase be)

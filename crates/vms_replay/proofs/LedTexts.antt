@@ -2,8 +2,9 @@
 use Rattle.std.proofs.Common.{◌≡◌, ℕ, zero, suc, nat_lt, Bool, true, false, List, [], ◌∷◌, ◌++◌, drop, refl, sym, ap}
 use Rattle.std.proofs.Common.{subst, ◌∙◌, Option, Some, None, if◌then◌else◌, append-nil, arith}
 use Rattle.std.specs.Prelude.{All, Result, Ok, Err}
+use Rattle.std.proofs.lemmas.List.Elements.{All-weaker}
 use Rattle.vms_world.specs.Common.{Header, IsHeader, Phase, Segment, SegmentsLead, contents_of, phase_if_any, Item}
-use Rattle.vms_world.specs.Common.{TableHistories, left_by}
+use Rattle.vms_world.specs.Common.{IsWorldOf, TableHistories, left_by}
 use Rattle.vms_command.specs.Common.{shown_given, CommandState, after_head, halts_at, printed_head, refuses, Heading}
 use Rattle.vms_command.specs.Common.{most_lines, LinesAbove, nothing_above}
 use Rattle.vms_header.specs.declared.causes.HeaderCause.{HeaderCause}
@@ -16,6 +17,7 @@ use Rattle.vms_stream.specs.Common.{Text, Waiting, unless_stopped, waits_after, 
 use Rattle.vms_stream.specs.Common.{state_after}
 use Rattle.vms_stream.specs.declared.statuses.Status.{Status}
 use Rattle.vms_stream.specs.declared.statuses.Status.TheVariants.{TooLong}
+use Rattle.vms_total_laws.specs.Common.{SumsAreTotals}
 use Rattle.vms_truth.specs.Common.{NumbersAreNear, worlds_on}
 use Rattle.vms_world.specs.declared.worlds.World.{World}
 use Rattle.vms_replay.specs.Common.{normal_rule, pressure_rule, PastPhase, first_world, histories_in, PhasesLeadFrom}
@@ -45,6 +47,17 @@ module _ (Makes : Header → World → List Item → TableHistories → Type 0) 
       knows.near header segments (histories_in made) (first_world header) last normal-gives
       (IsStartOf-started header valid).world way
 
+  -- and the sums are totals
+  sums-led : IsHeader header → (segments : List Segment) (made : List PastPhase) (last : World)
+      → (way : SegmentsLead header pressure_rule normal_rule segments (histories_in made) (first_world header) last)
+      → All (SumsAreTotals header)
+      (worlds_on header pressure_rule normal_rule segments (histories_in made) (first_world header) last way)
+  sums-led valid segments made last way =
+      All-weaker (IsWorldOf header) (SumsAreTotals header) (knows.sums header)
+      (worlds_on header pressure_rule normal_rule segments (histories_in made) (first_world header) last way)
+      (knows.worlds header segments (histories_in made) (first_world header) last normal-gives
+      (IsStartOf-started header valid).world way)
+
   pub PhasesLeadThroughFront-of : IsHeader header → (Closed : Type 0) (segments : List Segment) (made : List PastPhase)
       → Front Makes header (first_world header) Closed segments made → PhasesLeadThroughFront Makes header segments made
   PhasesLeadThroughFront-of valid Closed segments made it =
@@ -59,6 +72,7 @@ module _ (Makes : Header → World → List Item → TableHistories → Type 0) 
           phases = way.phases;
           lawful = way.lawful;
           near = near-led valid it.front made it.last way.way;
+          sums = sums-led valid it.front made it.last way.way;
           plain = way.plain [] (HasPlainTotals-first header valid);
         };
       }
@@ -77,6 +91,7 @@ module _ (Makes : Header → World → List Item → TableHistories → Type 0) 
         phases = way.phases;
         lawful = way.lawful;
         near = near-led valid it.front made it.last way.way;
+        sums = sums-led valid it.front made it.last way.way;
         plain = way.plain [] (HasPlainTotals-first header valid);
       })
 

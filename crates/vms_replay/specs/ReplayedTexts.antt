@@ -6,6 +6,7 @@ use Rattle.vms_header.specs.Common.{Fault, read_header}
 use Rattle.vms_command.specs.Common.{shown_given, following}
 use Rattle.vms_stream.specs.Common.{shown_on, OutcomesLead, OutcomesLeadToEnd, with_outcomes, waiting, AreLinesTaken}
 use Rattle.vms_stream.specs.Common.{halted, state_after}
+use Rattle.vms_total_laws.specs.Common.{SumsAreTotals}
 use Rattle.vms_truth.specs.Common.{LinesAreTrue, NumbersAreNear, worlds_on}
 use Rattle.vms_world.specs.declared.worlds.World.{World}
 use Rattle.vms_replay.specs.KernelRules.{normal_rule, pressure_rule}
@@ -40,17 +41,18 @@ AddUpOn header (Between n b ∷ segments) hss w last (next, may, crosses, way) b
     HasPlainTotals header before w × AddUpOn header segments hss next last way before
 
 -- a phase whose histories are allowed and at each of whose moments all laws of the three tables hold, and what its
--- lines print of page and percpu counters tells how much there truly was
+-- lines print of page, event and percpu counters tells how much there truly was
 pub record IsLawful (Makes : Header → World → List Item → TableHistories → Type 0) (header : Header) (phase : PastPhase)
     : Type 0 where
   pub makes : Makes header phase.world phase.items phase.histories
   pub laws : KeepAllLaws header phase.world phase.histories
-  pub truth : LinesAreTrue header phase.world phase.items phase.histories
+  pub truth : LinesAreTrue header pressure_rule normal_rule phase.world phase.items phase.histories
 
 -- these phases are those on a way through all of these segments, from the world that a run begins with: each is a
 -- phase of its lines by the kernel's rules, each boundary line does what is defined of it, and each begins with the
 -- world that the one before it left. In each world on the way, and so in each that a report tells, the numbers are near
--- what they add up to, and that are the plain sums of the lines before it
+-- what they add up to. `report counters` prints as sums what percpu counters add up to. And all add up to the plain sums
+-- of the lines before it
 pub record PhasesLeadThrough (Makes : Header → World → List Item → TableHistories → Type 0) (header : Header)
     (segments : List Segment) (made : List PastPhase) : Type 0 where
   pub last : World
@@ -58,6 +60,8 @@ pub record PhasesLeadThrough (Makes : Header → World → List Item → TableHi
   pub phases : phases_on header segments (histories_in made) (first_world header) last way ≡ made
   pub lawful : All (IsLawful Makes header) made
   pub near : All (NumbersAreNear header) (worlds_on header pressure_rule normal_rule segments (histories_in made)
+      (first_world header) last way)
+  pub sums : All (SumsAreTotals header) (worlds_on header pressure_rule normal_rule segments (histories_in made)
       (first_world header) last way)
   pub plain : AddUpOn header segments (histories_in made) (first_world header) last way []
 

@@ -37,6 +37,7 @@ impl<E: Engine> Replay<E> {
     ghost use Rattle.vms_stream.specs.Common.{Text};
     ghost use Rattle.vms_world.specs.declared.worlds.World.{World};
     ghost use Rattle.vms_replay.specs.MadePhases.{PastPhase};
+    ghost use Rattle.vms_replay.specs.Printing.{printed_by};
     ghost use Rattle.vms_replay.specs.Replaying.{Kept, first_kept, replaying};
     ghost use Rattle.vms_replay.specs.ReplayStates.{CrossesTo, EndsPhase, StandsBefore};
 
@@ -181,6 +182,23 @@ impl<E: Engine> Replay<E> {
         fitting_phases_are_phases::<KernelRules>();
         phases_add_their_lines::<KernelRules>();
         let left = engine.run_phase(self.alloc, world, header, &script, &mut printer)?;
+        self.put_back(left, script, printer, out)?;
+        Ok(())
+    }
+
+    /// Goes on from the world that a phase left, with what it prints and with room for the lines of the next one.
+    fn put_back(
+        &mut self,
+        left: World,
+        script: PhaseScript,
+        printer: WaitPrinter,
+        out: &mut Vec<u8>,
+    ) -> Result<(), Memory>
+        ensures world { OnOk result (self.new.world ≡ Some left) }
+        ensures items { OnOk result (self.new.items.items ≡ []) }
+        ensures waits { OnOk result (self.new.waits.items ≡ []) }
+        ensures text { OnOk result ((header : Header) → out.new.items ≡ printed_by header printer []) }
+    {
         self.items = emptied(self.alloc, script.into_items());
         let (text, waits) = printer.end()?;
         *out = text;

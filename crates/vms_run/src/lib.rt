@@ -3,7 +3,6 @@
 #![tactic(auto)]
 
 mod handing;
-mod memos;
 mod run_phases;
 mod runners;
 mod running;
@@ -13,9 +12,8 @@ mod threads;
 mod tool;
 
 pub use handing::hand_on;
-pub use memos::Memo;
 pub use run_phases::{Histories, RunPhase};
 pub use runners::{PhaseMaker, PhaseRunner};
 pub use threads::OnThreads;
 pub use tool::{tool_gen, tool_run};
-pub use vms_phase::{Gate, OpenGate};
+pub use vms_jobs::{Gate, OpenGate};

@@ -1,7 +1,7 @@
-use crate::Memo;
 use std::alloc::Global;
 use std::marker::Model;
 use vms_base::Memory;
+use vms_memo::Memo;
 use vms_phase::ClosedHistories;
 use vms_script::PhaseScript;
 use vms_world::World;

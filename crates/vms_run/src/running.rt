@@ -11,7 +11,8 @@ use std::sync::Wait;
 use std::thread::Threads;
 use vms_base::{Header, Memory};
 use vms_calc::{Rule, Rules};
-use vms_phase::{Gate, PhaseDone, run_phase};
+use vms_jobs::Gate;
+use vms_phase::{PhaseDone, run_phase};
 use vms_script::PhaseScript;
 use vms_world::World;
 

@@ -1,9 +1,10 @@
+use crate::PhaseMaker;
 use crate::handing::hand_on;
 use crate::run_phases::{Histories, RunPhase};
-use crate::{Memo, PhaseMaker};
 use std::alloc::Global;
 use std::marker::Model;
 use vms_base::{Header, Memory};
+use vms_memo::Memo;
 use vms_phase::PhaseDone;
 use vms_replay::{Engine, WaitPrinter};
 use vms_script::PhaseScript;

@@ -14,7 +14,7 @@ use vms_base::ZoneSize;
 use vms_calc::{normal_threshold, pressure_threshold};
 use vms_gen::{MadeSource, Numbers};
 use vms_io::{Sink, Source};
-use vms_lane::Gate;
+use vms_jobs::Gate;
 use vms_stream::Status;
 
 /// The command `run`: makes each phase of a trace with a thread for each lane, writes refusals, answers and reports in

@@ -6,7 +6,8 @@ use crate::shares::{PhaseShare, StandingJob};
 use std::sync::Wait;
 use vms_base::Memory;
 use vms_calc::{Rule, Rules};
-use vms_lane::{Gate, Host, LaneLines, LanePasses};
+use vms_jobs::Gate;
+use vms_lane::{Host, LaneLines, LanePasses};
 use vms_phase::{LaneDone, LaneJob, run_job};
 use vms_text::Lane;
 

@@ -96,17 +96,42 @@ where
         (N.answers normal) tables world.now script.now (lanes_of header.now.layout script.now)
         (mains_of mains.new) run.1.items []) }
 {
+    let shared = shared_by_lanes(alloc, header, normal, pressure, tables, script)?;
+    let lanes = run_lanes(rt, alloc, crew, &shared, &*shared, mains, world)?;
+    Ok((tables_of(rt, shared), lanes))
+}
+
+/// What the lanes share, with copies of the header and the lines.
+fn shared_by_lanes<N: Drop, P: Drop>(
+    alloc: Global,
+    header: &Header,
+    normal: N,
+    pressure: P,
+    tables: Tables,
+    script: &PhaseScript,
+) -> Result<Arc<PhaseShare<N, P>, Global>, Memory>
+    ensures header { IfOk result (λ shared. (arc_value shared).header ≡ header.now) }
+    ensures tables { IfOk result (λ shared. (arc_value shared).tables ≡ tables) }
+    ensures script { IfOk result (λ shared. (arc_value shared).script ≡ script.now) }
+    ensures normal { IfOk result (λ shared. (arc_value shared).normal ≡ normal) }
+    ensures pressure { IfOk result (λ shared. (arc_value shared).pressure ≡ pressure) }
+{
+    let header = copied_header(alloc, header)?;
+    let script = copied_script(alloc, script)?;
     let share = PhaseShare {
-        header: copied_header(alloc, header)?,
+        header,
         tables,
-        script: copied_script(alloc, script)?,
+        script,
         normal,
         pressure,
     };
-    let Ok(shared) = Arc::new(alloc, share) else {
-        return Err(Memory);
-    };
-    let lanes = run_lanes(rt, alloc, crew, &shared, &*shared, mains, world)?;
+    Arc::new(alloc, share).map_err(Memory::from)
+}
+
+/// The tables that the lanes shared, once this is their only owner.
+fn tables_of<R: Wait, N: Drop, P: Drop>(rt: &R, shared: Arc<PhaseShare<N, P>, Global>) -> Tables
+    ensures { result ≡ (arc_value shared).tables }
+{
     let PhaseShare {
         header: _,
         tables,
@@ -114,7 +139,7 @@ where
         normal: _,
         pressure: _,
     } = owned(rt, shared);
-    Ok((tables, lanes))
+    tables
 }
 
 /// Makes the lines of a phase from what its lanes share.

@@ -1,13 +1,7 @@
-//! Trials of handles on counters, against what is truly there: while threads change them, and where calls are refused.
+//! Trials of the control handle of counters: it buries a dead CPU once, and no other.
 #![tactic(auto)]
 
-#[cfg(test)]
-mod answers;
 #[cfg(test)]
 mod burials;
 #[cfg(test)]
 mod machines;
-#[cfg(test)]
-mod refusals;
-#[cfg(test)]
-mod totals;

@@ -3,3 +3,4 @@ pub use Rattle.vms_total_laws.specs.PlainSums.{AreLinesOf, AreNumbered, adds_by,
 pub use Rattle.vms_total_laws.specs.PlainSums.{counts_by, counts_by_all, phases_among, says_made}
 pub use Rattle.vms_total_laws.specs.Moves.{CountersMoveBy, EventsMoveBy, EventsMoveByAll, PagesMoveBy, PagesMoveByAll}
 pub use Rattle.vms_total_laws.specs.WayAnswers.{answers_on}
+pub use Rattle.vms_total_laws.specs.ReportedSums.{SumsAreTotals}

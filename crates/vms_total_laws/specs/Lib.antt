@@ -1,4 +1,5 @@
 pub mod PlainSums
 pub mod Moves
 pub mod WayAnswers
+pub mod ReportedSums
 pub mod Common

@@ -12,12 +12,16 @@ use Rattle.vms_drift.specs.Nearness.{IsNear}
 use Rattle.vms_drift.specs.PresentCpus.{CountersAreNear, ItemsAreNear, most_hidden, parts_of}
 use Rattle.vms_truth.specs.AnswerTruth.{CallsAnswerTruly, SystemIsTrue, ValueIsTrue}
 use Rattle.vms_drift.specs.Moments.{MadeSince}
-use Rattle.vms_truth.specs.Slack.{IsTold, slack_at}
-use Rattle.vms_truth.proofs.Moments.{first-at, made-first}
-use Rattle.vms_truth.proofs.SlackBounds.{values-tell}
-use Rattle.vms_truth.proofs.Snapshots.{sums-truly}
-use Rattle.vms_truth.proofs.Tests.{test-is_true}
-use Rattle.vms_truth.proofs.Turns.{turn-is_true}
+use Rattle.vms_near.specs.Near.{TellsNearly}
+use Rattle.vms_near.specs.SystemNear.{SystemTellsNearly}
+use Rattle.vms_near.specs.Slack.{IsTold, slack_at}
+use Rattle.vms_near.proofs.BySystem.{system_values-tell_nearly}
+use Rattle.vms_near.proofs.ByValue.{values-tell_nearly}
+use Rattle.vms_near.proofs.Moments.{first-at, made-first}
+use Rattle.vms_near.proofs.SlackBounds.{values-tell}
+use Rattle.vms_near.proofs.Snapshots.{sums-nearly}
+use Rattle.vms_near.proofs.Tests.{test-is_true}
+use Rattle.vms_near.proofs.Turns.{turn-is_true}
 
 module _ (counters : (facts : Facts) (h : History) → IsLegal facts h → CountersAreNear facts h)
     (items : (facts : Facts) (h : History) → IsLegal facts h → ItemsAreNear facts h) where
@@ -33,6 +37,8 @@ module _ (counters : (facts : Facts) (h : History) → IsLegal facts h → Count
         moment = first.moment;
         loaded = first-at facts p later earlier (LoadG k is.value) [] first;
         is = is.answers;
+        nearly = subst (TellsNearly facts first.moment k.number) stood
+            (values-tell_nearly facts first.moment first.legal.0 k.number first.legal.2.0);
         near = subst (λ (z : ℤ). IsNear z (true_total facts first.moment k.number)
             (most_hidden facts.layout (state_after facts first.moment) + carried_sizes first.moment k.number)) stood
             (counters facts first.moment first.legal.0 k.number first.legal.2.0);
@@ -53,6 +59,8 @@ module _ (counters : (facts : Facts) (h : History) → IsLegal facts h → Count
         moment = first.moment;
         loaded = first-at facts p later earlier (LoadS i is.value) [] first;
         is = is.answers;
+        nearly = subst (SystemTellsNearly facts first.moment i.number) first.legal.2.1
+            (system_values-tell_nearly facts first.moment first.legal.0 i.number first.legal.2.0);
         near = subst (λ (z : ℤ). IsNear z (true_total_of_item facts first.moment i.number)
             (parts_of facts.layout i.number * most_hidden facts.layout (state_after facts first.moment)
             + carried_of_item_sizes facts.layout first.moment i.number)) first.legal.2.1
@@ -68,7 +76,7 @@ module _ (counters : (facts : Facts) (h : History) → IsLegal facts h → Count
   answers-are_true pressure normal header base (Value k) owner p later earlier steps (answer.Value told) is has =
       value-is_true (facts_of header base) later earlier p k steps told is has
   answers-are_true pressure normal header base (Snapshot k) owner p later earlier steps (answer.Snapshot told) is has =
-      sums-truly (facts_of header base) later earlier p k steps told is has
+      sums-nearly (facts_of header base) later earlier p k steps told is has
   answers-are_true pressure normal header base (System i) owner p later earlier steps (answer.System told) is has =
       system-is_true (facts_of header base) later earlier p i steps told is has
   answers-are_true pressure normal header base (SetPressure n) None p later earlier steps answer.Done is has = tt

@@ -5,13 +5,14 @@ use Rattle.std.proofs.Common.{append-nil, unsigned_abs, nat_eq, eqb-true, if◌t
 use Rattle.std.proofs.lemmas.Int.{ints}
 use Rattle.std.proofs.lemmas.List.{append_cancel_right}
 use Rattle.vms_calls.specs.PageCalls.{IsPageCall}
+use Rattle.vms_calls.specs.declared.page_calls.PageAnswer.{PageAnswer}
 use Rattle.vms_calls.specs.declared.page_calls.PageCall.{PageCall}
 use Rattle.vms_core.specs.Pages.{History, IsLegal}
 use Rattle.vms_drift.specs.Moments.{MadeSince}
 use Rattle.vms_drift.specs.Transit.{CallsCarryLittle, CallsCarryNothingOn, most_carried, most_carried_of_item}
 use Rattle.vms_history.proofs.Common.{after-append, after-steps, begun_in-append, own-append}
 use Rattle.vms_truth.specs.PhaseTransit.{PhasesCarryLittle, most_of_acts, of_call}
-use Rattle.vms_truth.proofs.Moments.{by_last, earlier-legal, event}
+use Rattle.vms_near.proofs.Moments.{by_last, earlier-legal, event}
 use Rattle.vms_world.specs.Common.{Acts, AddG, AddS, Extends, Facts, Header, Put, Shape, State, Step, Take, ZoneSize}
 use Rattle.vms_world.specs.Common.{after, begun_in, carried_of_item, count_below, facts_of, own, pages, Act, CallSteps}
 use Rattle.vms_world.specs.Common.{Lane, MakesActs, PageSteps, acts_of, lane_at, lanes_of, owner_of, page_call}
@@ -74,32 +75,49 @@ module _ (measure : PageCall → ℕ) (lane : Lane) where
   most-last (first ∷ acts) a = omega (arith, most-last acts a)
 
 module _ (header : Header) (base : State) (pressure normal : ZoneSize → ℕ → ℕ → Type 0)
-    (inside : CallsCarryLittle pressure normal) (between : CallsCarryNothingOn pressure normal) where
+    (between : CallsCarryNothingOn pressure normal) where
   abbrev facts : Facts
   facts = facts_of header base
 
-  -- what a caller carries that is inside one of these acts at most
-  pub record StaysWithin (lane : Lane) (acts : List Act) (mine : History) : Type 0 where
-    pub counters : (k : ℕ) → unsigned_abs (carried k mine) ≤ most_of_acts (λ call. most_carried call k) lane acts
-    pub items : (i : ℕ) → unsigned_abs (carried_of_item header.layout i mine)
-        ≤ most_of_acts (λ call. most_carried_of_item header.layout call i) lane acts
-
-  nothing-within : (lane : Lane) (acts : List Act) (mine : History) → CarriesNothing header.layout mine
-      → StaysWithin lane acts mine
-  nothing-within lane acts mine nothing = record {
-    counters = λ k. let none = nothing.counters k in omega (arith, ints, none);
-    items = λ i. let none = nothing.items i in omega (arith, ints, none);
-  }
-
   module _ (lane : Lane) (p : ℕ) where
+    -- at a moment the lane's pass is inside the call of one of these acts, of which it has made the first steps
+    pub record InsideCall (acts : List Act) (g : History) : Type 0 where
+      pub call : PageCall
+      pub most : (measure : PageCall → ℕ) → measure call ≤ most_of_acts measure lane acts
+      pub earlier : History
+      pub made : List Step
+      pub rest : List Step
+      pub told : PageAnswer
+      pub called : IsPageCall header base pressure normal call (owner_of lane) p earlier (made ++ rest) told
+      pub since : MadeSince facts g earlier p made
+      pub idle : CarriesNothing header.layout (own earlier p)
+
+    -- or it carries nothing
+    abbrev pub IsInside : List Act → History → Type 0
+    IsInside acts g = CarriesNothing header.layout (own g p) ⊎ InsideCall acts g
+
     -- what the caller has made of the acts so far
     pub record CarriesAlong (acts : List Act) (h : History) : Type 0 where
       pub nothing : CarriesNothing header.layout (own h p)
-      pub within : (g : History) → Extends h g → StaysWithin lane acts (own g p)
+      pub within : (g : History) → Extends h g → IsInside acts g
 
     nothing-made : (mine : History) → mine ≡ [] → CarriesNothing header.layout mine
     nothing-made mine none = subst (CarriesNothing header.layout) (sym none)
         (record { counters = λ k. refl; items = λ i. refl })
+
+    one-act_more : (acts : List Act) (a : Act) (g : History) → IsInside acts g → IsInside (acts ++ a ∷ []) g
+    one-act_more acts a g (inl nothing) = inl nothing
+    one-act_more acts a g (inr inside) = inr (record {
+      call = inside.call;
+      most = λ measure. let more = most-before measure lane acts a in omega (arith, inside.most measure, more);
+      earlier = inside.earlier;
+      made = inside.made;
+      rest = inside.rest;
+      told = inside.told;
+      called = inside.called;
+      since = inside.since;
+      idle = inside.idle;
+    })
 
     module _ (before : List Act) (next : Act) (h' more : History) (steps : List Step)
         (legal : IsLegal facts (more ++ h')) (making : PageSteps header base pressure normal lane p next h' steps)
@@ -118,8 +136,7 @@ module _ (header : Header) (base : State) (pressure normal : ZoneSize → ℕ �
               between header base call (owner_of lane) p (more ++ h') h' steps told is all-made was.nothing
 
       -- in the course of the act
-      in-course : (g : History) → Extends (more ++ h') g → Extends g h'
-          → StaysWithin lane (before ++ next ∷ []) (own g p)
+      in-course : (g : History) → Extends (more ++ h') g → Extends g h' → IsInside (before ++ next ∷ []) g
       in-course g within since =
           let same : own within.0 p ++ own since.0 p ≡ after p steps [] =
           append_cancel_right (own within.0 p ++ own since.0 p) (after p steps []) (own h' p)
@@ -137,34 +154,34 @@ module _ (header : Header) (base : State) (pressure normal : ZoneSize → ℕ �
           by : (first : FirstMade p steps (own since.0 p)) → own g p ≡ after p first.made (own h' p)
               → (asked : Option PageCall) → page_call lane next ≡ asked
               → CallSteps (λ call ks told. IsPageCall header base pressure normal call (owner_of lane) p h' ks told)
-              asked steps → StaysWithin lane (before ++ next ∷ []) (own g p)
+              asked steps → IsInside (before ++ next ∷ []) g
           by first made None asked none =
-              nothing-within lane (before ++ next ∷ []) (own g p)
-              (subst (CarriesNothing header.layout)
+              inl (subst (CarriesNothing header.layout)
               (sym (made ∙ ap (λ (ks : List Step). after p ks (own h' p))
               (none-made first.made first.rest (sym first.parts ∙ none)))) was.nothing)
             where
               none-made : (xs ys : List Step) → xs ++ ys ≡ [] → xs ≡ []
               none-made [] ys is = refl
               none-made (x ∷ xs) ys is = let same : x ∷ (xs ++ ys) ≡ [] = is in absurd cc
-          by first made (Some call) asked (told, is) =
-              let little = inside header base call (owner_of lane) p g h' first.made first.rest told
-              (subst (λ (ks : List Step). IsPageCall header base pressure normal call (owner_of lane) p h' ks told)
-              first.parts is)
-              (record { legal = earlier-legal facts (more ++ h') g within legal; extends = since; made = made })
-              was.nothing in
-              record {
-                counters = λ k.
-                    let most = most-last (λ c. most_carried c k) lane before next in
-                    let here = ap (of_call (λ c. most_carried c k)) asked in
-                    let carries = little.counters k in
-                    omega (arith, most, here, carries);
-                items = λ i.
-                    let most = most-last (λ c. most_carried_of_item header.layout c i) lane before next in
-                    let here = ap (of_call (λ c. most_carried_of_item header.layout c i)) asked in
-                    let carries = little.items i in
-                    omega (arith, most, here, carries);
-              }
+          by first made (Some call) asked (told, is) = inr (record {
+            call = call;
+            most = λ measure.
+                let most = most-last measure lane before next in
+                let here = ap (of_call measure) asked in
+                omega (arith, most, here);
+            earlier = h';
+            made = first.made;
+            rest = first.rest;
+            told = told;
+            called = subst (λ (ks : List Step).
+                IsPageCall header base pressure normal call (owner_of lane) p h' ks told) first.parts is;
+            since = record {
+              legal = earlier-legal facts (more ++ h') g within legal;
+              extends = since;
+              made = made;
+            };
+            idle = was.nothing;
+          })
 
       one-more : CarriesAlong (before ++ next ∷ []) (more ++ h')
       one-more = record {
@@ -172,33 +189,47 @@ module _ (header : Header) (base : State) (pressure normal : ZoneSize → ℕ �
         within = λ g within. by g within (beginnings within.0 g more h' (sym within.1));
       }
         where
-          by : (g : History) → Extends (more ++ h') g → Extends h' g ⊎ Extends g h'
-              → StaysWithin lane (before ++ next ∷ []) (own g p)
-          by g within (inl older) =
-              let earlier = was.within g older in
-              record {
-                counters = λ k.
-                    let most = most-before (λ c. most_carried c k) lane before next in
-                    let carries = earlier.counters k in
-                    omega (arith, most, carries);
-                items = λ i.
-                    let most = most-before (λ c. most_carried_of_item header.layout c i) lane before next in
-                    let carries = earlier.items i in
-                    omega (arith, most, carries);
-              }
+          by : (g : History) → Extends (more ++ h') g → Extends h' g ⊎ Extends g h' → IsInside (before ++ next ∷ []) g
+          by g within (inl older) = one-act_more before next g (was.within g older)
           by g within (inr since) = in-course g within since
 
     pub carries-along : (acts : List Act) (h : History) → IsLegal facts h
         → MakesActs (PageSteps header base pressure normal lane p) p acts h → CarriesAlong acts h
     carries-along acts h legal (no_act h' none) = record {
       nothing = nothing-made (own h' p) none;
-      within = λ g within. nothing-within lane [] (own g p) (nothing-made (own g p)
+      within = λ g within. inl (nothing-made (own g p)
           (none-later (own within.0 p) (own g p)
           (sym (own-append within.0 g p) ∙ ap (λ (es : History). own es p) (sym within.1) ∙ none)));
     }
     carries-along acts h legal (one_act before next h' more steps made making own_is) =
         one-more before next h' more steps legal making own_is
         (carries-along before h' (earlier-legal facts (more ++ h') h' (more, refl) legal) made)
+
+    -- what a caller carries that is inside one of these acts at most
+    pub record StaysWithin (acts : List Act) (mine : History) : Type 0 where
+      pub counters : (k : ℕ) → unsigned_abs (carried k mine) ≤ most_of_acts (λ call. most_carried call k) lane acts
+      pub items : (i : ℕ) → unsigned_abs (carried_of_item header.layout i mine)
+          ≤ most_of_acts (λ call. most_carried_of_item header.layout call i) lane acts
+
+    stays-within : CallsCarryLittle pressure normal → (acts : List Act) (g : History) → IsInside acts g
+        → StaysWithin acts (own g p)
+    stays-within carry acts g (inl nothing) = record {
+      counters = λ k. let none = nothing.counters k in omega (arith, ints, none);
+      items = λ i. let none = nothing.items i in omega (arith, ints, none);
+    }
+    stays-within carry acts g (inr inside) =
+        let little = carry header base inside.call (owner_of lane) p g inside.earlier inside.made inside.rest
+        inside.told inside.called inside.since inside.idle in
+        record {
+          counters = λ k.
+              let most = inside.most (λ c. most_carried c k) in
+              let carries = little.counters k in
+              omega (arith, most, carries);
+          items = λ i.
+              let most = inside.most (λ c. most_carried_of_item header.layout c i) in
+              let carries = little.items i in
+              omega (arith, most, carries);
+        }
 
 -- the main pass begins and ends passes alone, and so carries nothing
 main-moves : (facts : Facts) (h : History) (shape : Shape) (step : Step) → Acts pages facts h 0 (role step)
@@ -209,7 +240,7 @@ main-moves _ _ shape (AddG l a) acts = absurd (acts.0 refl)
 main-moves _ _ shape (AddS l a) acts = absurd (acts.0 refl)
 main-moves _ _ shape _ acts = (λ k. refl, λ i. refl)
 
-main-nothing : (facts : Facts) (shape : Shape) (h : History) → IsLegal facts h → CarriesNothing shape (own h 0)
+pub main-nothing : (facts : Facts) (shape : Shape) (h : History) → IsLegal facts h → CarriesNothing shape (own h 0)
 main-nothing facts shape [] legal = record { counters = λ k. refl; items = λ i. refl }
 main-nothing facts shape (e ∷ h) legal = by (nat_eq e.caller 0) refl (main-nothing facts shape h legal.0)
   where
@@ -236,7 +267,7 @@ module _ (f bound : ℕ → ℕ) (most : ℕ) (each : (n : ℕ) → n < most →
       let same : b + suc d ≡ suc (b + d) = omega arith in
       rw same (omega (arith, more-bounded b d))
 
-  sum-bounded : (b : ℕ) → b ≤ most → f 0 ≡ 0 → count_below f (suc b) ≤ count_below bound most
+  pub sum-bounded : (b : ℕ) → b ≤ most → f 0 ≡ 0 → count_below f (suc b) ≤ count_below bound most
   sum-bounded b less none =
       let all = all-bounded b less in
       let rest = more-bounded b (most - b) in
@@ -258,10 +289,12 @@ phases-carry_little pressure normal inside between header w lines hs makes h wit
     subst (λ (n : ℕ). begun_in role h ≤ n) makes.page_lanes.one_each
     (subst (λ (g : History). begun_in role h ≤ begun_in role g) (sym within.1) (begun_in-append role within.0 h)) in
     let each : (n : ℕ) → n < length lanes
-    → StaysWithin header base pressure normal inside between (lane_at lanes n) (acts_of (lane_at lanes n) lines)
+    → StaysWithin header base pressure normal between (lane_at lanes n) (suc n) (acts_of (lane_at lanes n) lines)
     (own h (suc n)) = λ n below.
-    (carries-along header base pressure normal inside between (lane_at lanes n) (suc n)
-    (acts_of (lane_at lanes n) lines) hs.pages whole (makes.page_lines n below)).within h within in
+    stays-within header base pressure normal between (lane_at lanes n) (suc n) inside
+    (acts_of (lane_at lanes n) lines) h
+    ((carries-along header base pressure normal between (lane_at lanes n) (suc n)
+    (acts_of (lane_at lanes n) lines) hs.pages whole (makes.page_lines n below)).within h within) in
     record {
       counters = λ k.
           sum-bounded (λ p. unsigned_abs (carried k (own h p)))

@@ -3,26 +3,28 @@ use Rattle.std.proofs.Common.{◌≡◌, ℕ, ◌*◌, ◌<◌, ◌≤◌, Bool,
 use Rattle.std.proofs.Common.{length, unsigned_abs, refl, sym, ap, subst, ◌∙◌, arith, if◌then◌else◌, eqb-true}
 use Rattle.std.proofs.lemmas.Bool.Decides.{nat_tests}
 use Rattle.std.proofs.lemmas.Int.{ints}
-use Rattle.std.proofs.lemmas.List.Elements.{All-cons, All-nil}
+use Rattle.std.proofs.lemmas.List.Elements.{All-cons, All-nil, All-weaker}
 use Rattle.vms_core.specs.Pages.{History, IsLegal}
 use Rattle.vms_core.specs.Totals.{differentials_of_item}
 use Rattle.vms_drift.specs.PresentCpus.{CountersAreNear, ItemsAreNear, most_hidden, parts_of}
 use Rattle.vms_drift.proofs.ItemCounters.{zone_item-most}
 use Rattle.vms_drift.proofs.Nearness.{near}
 use Rattle.vms_history.proofs.Common.{sum_below-same, sum_below-sizes, sum_below-sum}
-use Rattle.vms_truth.specs.Common.{NumbersAreNear, WaysStayNear, worlds_on}
-use Rattle.vms_truth.specs.WorldTruth.{slack_in, total_in, total_of_item_in}
-use Rattle.vms_truth.proofs.SlackBounds.{differentials-within}
+use Rattle.vms_truth.specs.Common.{NumbersAreNear, WaysKeepWorlds, WaysStayNear, worlds_on}
+use Rattle.vms_truth.specs.WorldTruth.{IsNearByBatches, slack_in, total_in, total_of_item_in}
+use Rattle.vms_truth.proofs.NearTables.{events-told}
+use Rattle.vms_near.proofs.SlackBounds.{differentials-within}
 use Rattle.vms_world.specs.Common.{AreComplete, Between, Crosses, Facts, FitVolumes, GivesThresholds, Header, IsCounter}
-use Rattle.vms_world.specs.Common.{IsItem, IsLayout, IsWorldOf, IsZone, LeavesNothing, MayCross, Item, Phase}
-use Rattle.vms_world.specs.Common.{SpendTheirLines, TableHistories, ZoneSize, count_below, counter_count, differentials}
-use Rattle.vms_world.specs.Common.{item_of, left_by, page_facts, place_of, system_at, value_at}
+use Rattle.vms_world.specs.Common.{IsDeclared, IsItem, IsLayout, IsWorldOf, IsZone, LeavesNothing, MayCross, Item}
+use Rattle.vms_world.specs.Common.{Phase, SpendTheirLines, TableHistories, ZoneSize, count_below, counter_count}
+use Rattle.vms_world.specs.Common.{differentials, item_of, left_by, page_facts, place_of, system_at, value_at}
 use Rattle.vms_text.specs.declared.acts.Boundary.{Boundary}
 use Rattle.vms_world.specs.declared.worlds.World.{World}
 
 module _ (counters : (facts : Facts) (h : History) → IsLegal facts h → CountersAreNear facts h)
     (items : (facts : Facts) (h : History) → IsLegal facts h → ItemsAreNear facts h)
-    (header : Header) (w : World) (of : IsWorldOf header w) where
+    (header : Header) (w : World) (of : IsWorldOf header w)
+    (percpu : (j : ℕ) → IsDeclared header j → IsNearByBatches header w j) where
   abbrev facts : Facts
   facts = page_facts header w
 
@@ -103,30 +105,33 @@ module _ (counters : (facts : Facts) (h : History) → IsLegal facts h → Count
         let parts = item-parts i (omega arith) in
         near (system_at w.pages i) (total_of_item_in header w i)
         (count_below (slack_in header w) (length header.layout.zones)) (omega (arith, ints, within, parts));
+    events = events-told header w of;
+    percpu = percpu;
   }
 
-module _ (counters : (facts : Facts) (h : History) → IsLegal facts h → CountersAreNear facts h)
-    (items : (facts : Facts) (h : History) → IsLegal facts h → ItemsAreNear facts h)
-    (pressure normal : ZoneSize → ℕ → ℕ → Type 0)
+module _ (pressure normal : ZoneSize → ℕ → ℕ → Type 0)
     (keeps_crossed : (header : Header) (boundary : Boundary) (w next : World) → GivesThresholds normal
     → IsWorldOf header w → MayCross header.layout w.pages boundary → Crosses header normal boundary w next
     → IsWorldOf header next)
     (keeps_phase : (header : Header) (w : World) (lines : List Item) (hs : TableHistories) → IsWorldOf header w
     → AreComplete header w hs → SpendTheirLines header lines hs → FitVolumes header w lines
     → LeavesNothing header (left_by header w lines hs) → IsWorldOf header (left_by header w lines hs)) where
-  pub ways-near : WaysStayNear pressure normal
-  ways-near header [] hss w last gives of way =
-      All-cons (NumbersAreNear header) w [] (numbers-near counters items header w of) (All-nil (NumbersAreNear header))
-  ways-near header (Phase lines ∷ segments) [] w last gives of way =
-      All-cons (NumbersAreNear header) w [] (numbers-near counters items header w of) (All-nil (NumbersAreNear header))
-  ways-near header (Phase lines ∷ segments) (hs ∷ more) w last gives of (next, is, way) =
-      All-cons (NumbersAreNear header) w (worlds_on header pressure normal segments more next last way)
-      (numbers-near counters items header w of)
-      (ways-near header segments more next last gives
+  pub ways-kept : WaysKeepWorlds pressure normal
+  ways-kept header [] hss w last gives of way = All-cons (IsWorldOf header) w [] of (All-nil (IsWorldOf header))
+  ways-kept header (Phase lines ∷ segments) [] w last gives of way =
+      All-cons (IsWorldOf header) w [] of (All-nil (IsWorldOf header))
+  ways-kept header (Phase lines ∷ segments) (hs ∷ more) w last gives of (next, is, way) =
+      All-cons (IsWorldOf header) w (worlds_on header pressure normal segments more next last way) of
+      (ways-kept header segments more next last gives
       (subst (IsWorldOf header) (sym is.left)
       (keeps_phase header w lines hs of is.complete is.spent is.volumes
       (subst (LeavesNothing header) is.left is.buried))) way)
-  ways-near header (Between n b ∷ segments) hss w last gives of (next, may, crosses, way) =
-      All-cons (NumbersAreNear header) w (worlds_on header pressure normal segments hss next last way)
-      (numbers-near counters items header w of)
-      (ways-near header segments hss next last gives (keeps_crossed header b w next gives of may crosses) way)
+  ways-kept header (Between n b ∷ segments) hss w last gives of (next, may, crosses, way) =
+      All-cons (IsWorldOf header) w (worlds_on header pressure normal segments hss next last way) of
+      (ways-kept header segments hss next last gives (keeps_crossed header b w next gives of may crosses) way)
+
+  pub ways-near : ((header : Header) (w : World) → IsWorldOf header w → NumbersAreNear header w)
+      → WaysStayNear pressure normal
+  ways-near near header segments hss w last gives of way =
+      All-weaker (IsWorldOf header) (NumbersAreNear header) (near header)
+      (worlds_on header pressure normal segments hss w last way) (ways-kept header segments hss w last gives of way)

@@ -21,7 +21,7 @@ use Rattle.vms_calls.proofs.PageCalls.{page-tells}
 use Rattle.vms_core.proofs.Common.{online-stays}
 use Rattle.vms_history.proofs.Common.{base_can_begin}
 use Rattle.vms_drift.specs.Moments.{MadeSince}
-use Rattle.vms_truth.proofs.Moments.{FirstAt, made-cut, made-first}
+use Rattle.vms_near.proofs.Moments.{FirstAt, made-cut, made-first}
 
 module _ (facts : Facts) (p : ℕ) (later : History) where
   -- a CPU that is online when the phase begins was found online

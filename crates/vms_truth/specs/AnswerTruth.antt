@@ -13,32 +13,38 @@ use Rattle.vms_calls.specs.declared.page_calls.PageCall.TheVariants.{Fold, SetNo
 use Rattle.vms_core.specs.Drift.{carried_of_item_sizes, carried_sizes}
 use Rattle.vms_drift.specs.Nearness.{IsNear}
 use Rattle.vms_drift.specs.PresentCpus.{most_hidden, parts_of}
-use Rattle.vms_truth.specs.BalanceTruth.{BalanceIsTrue}
+use Rattle.vms_near.specs.Balances.{BalanceIsTrue}
 use Rattle.vms_drift.specs.Moments.{MadeSince, StepsAt}
-use Rattle.vms_truth.specs.Slack.{IsTold, slack_at}
-use Rattle.vms_truth.specs.SnapshotTruth.{SumsTruly}
-use Rattle.vms_truth.specs.TestTruth.{FreeIsTrue}
+use Rattle.vms_near.specs.Near.{TellsNearly}
+use Rattle.vms_near.specs.SystemNear.{SystemTellsNearly}
+use Rattle.vms_near.specs.Slack.{IsTold, slack_at}
+use Rattle.vms_near.specs.Snapshots.{SumsNearly}
+use Rattle.vms_near.specs.Tests.{FreeIsTrue}
 
--- the value of counter k, which was loaded between these histories and is told as so many pages, is near the true total
--- of that moment, by 125 pages for each CPU that is present and by what callers carry. That of a zone's counter tells
--- it but for the slack of the zone under the mark that stood then.
+-- the value of counter k, which was loaded between these histories and is told as so many pages, is as near the true
+-- total of that moment as the CPUs can hide and as is in flight. It is near it by 125 pages for each CPU that is present
+-- and by what callers carry, and that of a zone's counter tells it but for the slack of the zone under the mark that
+-- stood then.
 pub record ValueIsTrue (facts : Facts) (later earlier : History) (p : ℕ) (k : CounterId) (told : ℕ) : Type 0 where
   pub value : ℤ
   pub moment : History
   pub loaded : StepsAt later earlier p (LoadG k value) moment
   pub is : told ≡ at_least_zero value
+  pub nearly : TellsNearly facts moment k.number value
   pub near : IsNear value (true_total facts moment k.number)
       (most_hidden facts.layout (state_after facts moment) + carried_sizes moment k.number)
   pub of_zone : IsZone facts.layout (place_of facts.layout k.number) →
       IsTold facts moment k.number told (slack_at facts moment (place_of facts.layout k.number))
 
--- the system-wide value of item i is near the item's true total at the moment of its load, by so much for each zone of
--- the machine, or for each node if the item is one of nodes, and by what callers carry
+-- the system-wide value of item i is as near the item's true total at the moment of its load as the CPUs can hide of it
+-- and as is in flight of it. It is near it by so much for each zone of the machine, or for each node if the item is one
+-- of nodes, and by what callers carry
 pub record SystemIsTrue (facts : Facts) (later earlier : History) (p : ℕ) (i : ItemId) (told : ℕ) : Type 0 where
   pub value : ℤ
   pub moment : History
   pub loaded : StepsAt later earlier p (LoadS i value) moment
   pub is : told ≡ at_least_zero value
+  pub nearly : SystemTellsNearly facts moment i.number value
   pub near : IsNear value (true_total_of_item facts moment i.number)
       (parts_of facts.layout i.number * most_hidden facts.layout (state_after facts moment)
       + carried_of_item_sizes facts.layout moment i.number)
@@ -53,7 +59,7 @@ AnswerIsTrue header base later earlier p (Test g mark most) (answer.Tested verdi
 AnswerIsTrue header base later earlier p (Value k) (answer.Value pages) =
     ValueIsTrue (facts_of header base) later earlier p k pages
 AnswerIsTrue header base later earlier p (Snapshot k) (answer.Snapshot pages) =
-    SumsTruly (facts_of header base) later earlier p k pages
+    SumsNearly (facts_of header base) later earlier p k pages
 AnswerIsTrue header base later earlier p (System i) (answer.System pages) =
     SystemIsTrue (facts_of header base) later earlier p i pages
 AnswerIsTrue header base later earlier p (Turn n order most) (answer.Balanced balance) =

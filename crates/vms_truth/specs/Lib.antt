@@ -1,10 +1,10 @@
 pub mod Slack
-pub mod SnapshotTruth
-pub mod TestTruth
-pub mod BalanceTruth
 pub mod AnswerTruth
 pub mod PcpuTruth
+pub mod EventTruth
 pub mod PhaseTransit
+pub mod PhaseFlight
+pub mod LineMoments
 pub mod PhaseTruth
 pub mod WorldTruth
 pub mod Common

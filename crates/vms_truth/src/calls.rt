@@ -1,4 +1,5 @@
 ghost use Rattle.vms_truth.specs.AnswerTruth.{CallsAnswerTruly};
+ghost use Rattle.vms_truth.specs.EventTruth.{EventCallsAnswerTruly};
 ghost use Rattle.vms_truth.specs.PcpuTruth.{PcpuCallsAnswerTruly};
 
 use vms_calls::ThresholdRules;
@@ -9,7 +10,10 @@ use vms_drift::numbers_stay_near_totals;
 /// and so much at most, but for what callers carried then.
 pub fn calls_answer_truly<R: ThresholdRules>()
     ensures pages { CallsAnswerTruly R.pressure R.normal }
+    ensures events { EventCallsAnswerTruly }
     ensures counters { PcpuCallsAnswerTruly }
 {
     numbers_stay_near_totals();
+    vms_event_core::laws_are_kept();
+    vms_event_core::online_words_grow();
 }

@@ -7,5 +7,5 @@ mod phases;
 mod worlds;
 
 pub use calls::calls_answer_truly;
-pub use phases::{phases_answer_truly, phases_carry_little};
+pub use phases::{phases_answer_truly, phases_carry_little, phases_fly_little};
 pub use worlds::reports_are_near;

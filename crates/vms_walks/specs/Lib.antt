@@ -1,4 +1,3 @@
-pub mod Rules
 pub mod Peaks
 pub mod Askings
 pub mod Calling

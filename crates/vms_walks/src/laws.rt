@@ -6,8 +6,8 @@ ghost use Rattle.vms_own_acts.specs.Common.{IsHistoryFor};
 ghost use Rattle.vms_walks.specs.Walks.{IsPageAct, StandsAt};
 ghost use Rattle.vms_walks.specs.declared.walks.Walk.{Walk};
 
-use crate::RuleFunctions;
 use vms_cursors::cursors_can_be_completed;
+use vms_own_acts::RuleFunctions;
 
 /// Where a walk stands, its pass goes along the acts of its lane. It stands there whatever other passes do.
 pub fn walks_go_along<R: RuleFunctions>()

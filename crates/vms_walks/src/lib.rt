@@ -16,5 +16,4 @@ mod walks;
 pub use laws::{fitting_lines_are_page_acts, walks_go_along};
 pub use open_calls::DueCall;
 pub use peaks::ZonePeaks;
-pub use rules::{ExactRules, RuleFunctions};
 pub use walks::Walk;

@@ -8,10 +8,11 @@ ghost use Rattle.vms_walks.specs.Walks.{IsDueAt, IsDueWithin, IsOfLane, IsPageAc
 
 use crate::calling::{begin_call, calling};
 use crate::settling::settle;
-use crate::{RuleFunctions, Walk, ZonePeaks};
+use crate::{Walk, ZonePeaks};
 use vms_base::Header;
 use vms_core::Step;
 use vms_cursors::{Cursor, cursors_can_be_completed};
+use vms_own_acts::RuleFunctions;
 use vms_plans::{DueStep, plans_are_the_calls};
 use vms_text::{Act, Lane};
 

@@ -7,12 +7,13 @@ ghost use Rattle.vms_own_acts.specs.Common.{IsHistoryFor};
 ghost use Rattle.vms_walks.specs.Askings.{asking_of};
 ghost use Rattle.vms_walks.specs.Walks.{IsOfLane};
 
+use crate::ZonePeaks;
 use crate::askings::{Asking, rules_asked};
 use crate::hidden_pages::{covering_mark, hidden_with};
 use crate::rules::choose;
-use crate::{RuleFunctions, ZonePeaks};
 use vms_base::{Header, PlaceId};
 use vms_cursors::Cursor;
+use vms_own_acts::RuleFunctions;
 
 /// Makes a cursor the same one after the rules answered, if they are asked.
 pub(crate) fn settle<R: RuleFunctions, K: ZonePeaks>(

@@ -7,16 +7,17 @@ ghost use Rattle.vms_written.specs.Common.{GoesAlong};
 ghost use Rattle.vms_own_acts.specs.Common.{IsHistoryFor, MakesInRow};
 ghost use Rattle.vms_walks.specs.Walks.{IsDueAt, IsDueWithin, IsPageAct, IsWalkWithin, StandsAt, under_way_of};
 
+use crate::ZonePeaks;
 use crate::calling::{begin_call, calling};
 use crate::ended_calls::has_ended;
 use crate::open_calls::{DueCall, due_call, next_call};
 use crate::settling::settle;
-use crate::{RuleFunctions, ZonePeaks};
 use vms_base::{CounterId, Header};
 use vms_calls::ThresholdRules;
 use vms_core::Step;
 use vms_cursor_steps::go_on;
 use vms_cursors::{Cursor, LoadPosition, cursors_can_be_completed};
+use vms_own_acts::RuleFunctions;
 use vms_plans::{DueStep, plans_are_the_calls};
 use vms_text::{Act, Lane};
 

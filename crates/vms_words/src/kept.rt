@@ -9,7 +9,7 @@ use vms_core::State;
 
 /// What the control pass keeps in memory, since it alone changes it: thresholds, how often they and the marks were set,
 /// the CPUs' states, and the peaks that follow from its steps.
-#[derive(Debug, Drop)]
+#[derive(Drop)]
 pub(crate) struct Settings {
     /// The largest threshold that each CPU may still be using in each zone, in pages, by CPU and then zone.
     pub peaks: Row<u32>,

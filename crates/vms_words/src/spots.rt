@@ -2,7 +2,7 @@ use vms_base::{CounterId, CpuId, GroupId, ItemId, Layout, PlaceId};
 use vms_rows::row_width;
 
 /// What a word of the table holds.
-#[derive(Clone, Copy, Debug, PartialEq, Eq)]
+#[derive(Clone, Copy)]
 pub(crate) enum Spot {
     /// The global value of a counter.
     Value(CounterId),
@@ -21,7 +21,7 @@ pub(crate) enum Spot {
 }
 
 /// Where the words of each kind begin, those of a CPU in its row.
-#[derive(Clone, Copy, Debug, PartialEq, Eq)]
+#[derive(Clone, Copy)]
 pub(crate) struct Blocks {
     pub systems: usize,
     pub marks: usize,

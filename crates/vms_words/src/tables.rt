@@ -58,30 +58,17 @@ impl PageTable {
         ensures table { IfOk result (λ made. made.0.facts ≡ facts_of header.now base.now) }
         ensures main { IfOk result (λ made. IsFrom made.1 made.0 × (made.1.seen ≡ [])) }
     {
-        let facts = Facts {
-            layout: header.layout.copied(),
-            sizes: Row::from_slice(alloc, header.sizes.as_slice())?,
-            base: copied(alloc, base)?,
-        };
+        let facts = opening_facts(alloc, header, base)?;
         let blocks = Blocks::of(&facts.layout);
-        let kept = Settings::opening(alloc, &facts.layout, &facts.base)?;
-        let first = opening_words(alloc, &facts.layout, &blocks, &facts.base)?;
-        let (words, main) = Words::make(alloc, &facts, first.as_slice())?;
-        let Facts {
-            layout,
-            sizes: _,
-            base: _,
-        } = facts;
+        let (words, main) = begin(alloc, &facts, &blocks)?;
+        let layout = layout_of(facts);
         Ok((
             PageTable {
                 layout,
                 blocks,
                 words,
             },
-            MainPass {
-                main,
-                kept: Some(kept),
-            },
+            main,
         ))
     }
 
@@ -213,19 +200,61 @@ fn write_state(
     clear(&mut into.mark_sets, 0);
 }
 
+/// What a phase on the page counters begins with.
+fn opening_facts(alloc: Global, header: &Header, base: &State) -> Result<Facts, Memory>
+    ensures { IfOk result (λ facts. facts ≡ facts_of header.now base.now) }
+{
+    let sizes = Row::from_slice(alloc, header.sizes.as_slice())?;
+    let base = copied(alloc, base)?;
+    Ok(Facts {
+        layout: header.layout.copied(),
+        sizes,
+        base,
+    })
+}
+
+/// The layout of facts, of which nothing else is left.
+fn layout_of(facts: Facts) -> Layout
+    ensures { result ≡ facts.layout }
+{
+    let Facts {
+        layout,
+        sizes: _,
+        base: _,
+    } = facts;
+    layout
+}
+
+/// The words of a phase that begins with these facts, and the main pass on them.
+fn begin(
+    alloc: Global,
+    facts: &Facts,
+    blocks: &Blocks,
+) -> Result<(Words<SharedPages>, MainPass), Memory>
+    requires base { IsBase facts.now }
+    requires laid { blocks.now ≡ blocks_of facts.now.layout }
+    ensures words { IfOk result (λ begun. (begun.0.facts ≡ facts.now) × (begun.0.table.words ≡ blocks.now.end)) }
+    ensures main { IfOk result (λ begun. IsFrom begun.1 begun.0 × (begun.1.seen ≡ [])) }
+{
+    let kept = Settings::opening(alloc, &facts.layout, &facts.base)?;
+    let first = opening_words(alloc, &facts.layout, blocks, &facts.base)?;
+    let (words, main) = Words::make(alloc, facts, first.as_slice())?;
+    Ok((
+        words,
+        MainPass {
+            main,
+            kept: Some(kept),
+        },
+    ))
+}
+
 /// A copy of a state.
 fn copied(alloc: Global, state: &State) -> Result<State, Memory>
     ensures { IfOk result (λ copy. copy ≡ state.now) }
 {
-    let place = Row::from_slice(alloc, state.place.as_slice())?;
-    let system = Row::from_slice(alloc, state.system.as_slice())?;
-    let diff = Row::from_slice(alloc, state.diff.as_slice())?;
-    let threshold = Row::from_slice(alloc, state.threshold.as_slice())?;
-    let mark = Row::from_slice(alloc, state.mark.as_slice())?;
-    let cpu = Row::from_slice(alloc, state.cpu.as_slice())?;
-    let acknowledged = Row::from_slice(alloc, state.acknowledged.as_slice())?;
-    let threshold_sets = Row::from_slice(alloc, state.threshold_sets.as_slice())?;
-    let mark_sets = Row::from_slice(alloc, state.mark_sets.as_slice())?;
+    let (place, system, diff) = copied_values(alloc, state)?;
+    let (threshold, mark, cpu) = copied_settings(alloc, state)?;
+    let (acknowledged, threshold_sets, mark_sets) = copied_numbers(alloc, state)?;
     Ok(State {
         place,
         system,
@@ -237,4 +266,43 @@ fn copied(alloc: Global, state: &State) -> Result<State, Memory>
         threshold_sets,
         mark_sets,
     })
+}
+
+/// Copies of the global values, the system-wide values and the differentials.
+fn copied_values(alloc: Global, state: &State) -> Result<(Row<i64>, Row<i64>, Row<i64>), Memory>
+    ensures { IfOk result (λ copies. (copies.0 ≡ state.now.place) × (copies.1 ≡ state.now.system)
+        × (copies.2 ≡ state.now.diff)) }
+{
+    let place = Row::from_slice(alloc, state.place.as_slice())?;
+    let system = Row::from_slice(alloc, state.system.as_slice())?;
+    let diff = Row::from_slice(alloc, state.diff.as_slice())?;
+    Ok((place, system, diff))
+}
+
+/// Copies of the thresholds, the marks and the CPUs' states.
+fn copied_settings(
+    alloc: Global,
+    state: &State,
+) -> Result<(Row<u32>, Row<u64>, Row<CpuState>), Memory>
+    ensures { IfOk result (λ copies. (copies.0 ≡ state.now.threshold) × (copies.1 ≡ state.now.mark)
+        × (copies.2 ≡ state.now.cpu)) }
+{
+    let threshold = Row::from_slice(alloc, state.threshold.as_slice())?;
+    let mark = Row::from_slice(alloc, state.mark.as_slice())?;
+    let cpu = Row::from_slice(alloc, state.cpu.as_slice())?;
+    Ok((threshold, mark, cpu))
+}
+
+/// Copies of what was acknowledged, and of how often each threshold and each mark was set.
+fn copied_numbers(
+    alloc: Global,
+    state: &State,
+) -> Result<(Row<Option<u32>>, Row<u32>, Row<u32>), Memory>
+    ensures { IfOk result (λ copies. (copies.0 ≡ state.now.acknowledged)
+        × (copies.1 ≡ state.now.threshold_sets) × (copies.2 ≡ state.now.mark_sets)) }
+{
+    let acknowledged = Row::from_slice(alloc, state.acknowledged.as_slice())?;
+    let threshold_sets = Row::from_slice(alloc, state.threshold_sets.as_slice())?;
+    let mark_sets = Row::from_slice(alloc, state.mark_sets.as_slice())?;
+    Ok((acknowledged, threshold_sets, mark_sets))
 }

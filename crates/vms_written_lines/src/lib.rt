@@ -4,6 +4,7 @@
 mod arguments;
 mod laws;
 mod lines;
+mod long_steps;
 mod narrowing;
 mod reading;
 mod step_names;

@@ -4,9 +4,9 @@ ghost use Rattle.vms_written_lines.specs.Forms.{form_of, read_arguments, read_st
 ghost use Rattle.vms_written_lines.specs.Lines.{read_line, read_said};
 
 use crate::arguments::{
-    amount, counter, cpu, cpu_if_any, cpu_state, eight, group, item, mode, number, number_if_any,
-    place, unsigned_of,
+    amount, counter, cpu, cpu_if_any, cpu_state, eight, group, item, number, place, unsigned_of,
 };
+use crate::long_steps::{load_a, load_d, load_m, load_t, put, set_t, take};
 use crate::step_names::{StepName, step_named};
 use crate::words::Words;
 use crate::{WideStep, WrittenLine};
@@ -72,42 +72,24 @@ fn read_arguments(words: &mut Words<'_>, layout: &Layout, name: StepName) -> Opt
         ≡ read_arguments layout.now (form_of name).arguments words.old.words }
     ensures clean { words.new.clean ≡ words.old.clean }
 {
-    Some(match name {
-        StepName::LoadT => WideStep::LoadT(place(words, layout)?, number(words)?, number(words)?),
-        StepName::LoadD => WideStep::LoadD(
-            cpu(words, layout)?,
-            group(words, layout)?,
-            eight(words)?,
-        ),
-        StepName::Put => WideStep::Put(
-            counter(words, layout)?,
-            eight(words)?,
-            number(words)?,
-            amount(words)?,
-            mode(words)?,
-        ),
-        StepName::Miss => WideStep::Miss(group(words, layout)?, eight(words)?),
-        StepName::AddG => WideStep::AddG(counter(words, layout)?, amount(words)?),
-        StepName::AddS => WideStep::AddS(item(words, layout)?, amount(words)?),
-        StepName::Take => WideStep::Take(cpu(words, layout)?, group(words, layout)?, eight(words)?),
-        StepName::LoadG => WideStep::LoadG(counter(words, layout)?, amount(words)?),
-        StepName::LoadS => WideStep::LoadS(item(words, layout)?, amount(words)?),
-        StepName::LoadM => WideStep::LoadM(place(words, layout)?, number(words)?, number(words)?),
-        StepName::LoadO => WideStep::LoadO(cpu(words, layout)?, cpu_state(words)?),
-        StepName::SetT => WideStep::SetT(
-            cpu(words, layout)?,
-            place(words, layout)?,
-            number(words)?,
-        ),
-        StepName::SetM => WideStep::SetM(place(words, layout)?, number(words)?),
-        StepName::SetO => WideStep::SetO(cpu(words, layout)?),
-        StepName::SetA => WideStep::SetA(place(words, layout)?, number(words)?),
-        StepName::LoadA => WideStep::LoadA(
-            cpu(words, layout)?,
-            place(words, layout)?,
-            number_if_any(words)?,
-        ),
-        StepName::Split => WideStep::Split(number(words)?, cpu_if_any(words, layout)?),
-        StepName::Join => WideStep::Join(number(words)?),
-    })
+    match name {
+        StepName::LoadT => load_t(words, layout),
+        StepName::LoadD => load_d(words, layout),
+        StepName::Put => put(words, layout),
+        StepName::Miss => Some(WideStep::Miss(group(words, layout)?, eight(words)?)),
+        StepName::AddG => Some(WideStep::AddG(counter(words, layout)?, amount(words)?)),
+        StepName::AddS => Some(WideStep::AddS(item(words, layout)?, amount(words)?)),
+        StepName::Take => take(words, layout),
+        StepName::LoadG => Some(WideStep::LoadG(counter(words, layout)?, amount(words)?)),
+        StepName::LoadS => Some(WideStep::LoadS(item(words, layout)?, amount(words)?)),
+        StepName::LoadM => load_m(words, layout),
+        StepName::LoadO => Some(WideStep::LoadO(cpu(words, layout)?, cpu_state(words)?)),
+        StepName::SetT => set_t(words, layout),
+        StepName::SetM => Some(WideStep::SetM(place(words, layout)?, number(words)?)),
+        StepName::SetO => Some(WideStep::SetO(cpu(words, layout)?)),
+        StepName::SetA => Some(WideStep::SetA(place(words, layout)?, number(words)?)),
+        StepName::LoadA => load_a(words, layout),
+        StepName::Split => Some(WideStep::Split(number(words)?, cpu_if_any(words, layout)?)),
+        StepName::Join => Some(WideStep::Join(number(words)?)),
+    }
 }

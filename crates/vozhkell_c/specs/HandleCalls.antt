@@ -9,7 +9,7 @@ use Rattle.vms_base.specs.declared.kinds.WaterMark.TheVariants.{Low, Min}
 use Rattle.vms_count.specs.Common.{owns_cpu}
 use Rattle.vms_calls.specs.Turns.{IsBalanceTest, IsOrderTest}
 use Rattle.vms_kswapd.specs.Common.{CountsBlocks, NamesPassed}
-use Rattle.vms_look.specs.Common.{HasSummed, SaysTruly, SumsTruly, TellsTruly}
+use Rattle.vms_look.specs.Common.{SaysTruly, SumsTruly, TellsTruly}
 use Rattle.vms_counters.specs.Calls as calls
 use Rattle.vms_counters.specs.Calls.{Changes, IsNodeTest, IsZoneTest, Makes, Refuses, RefusesChange, RefusesNodeTest}
 use Rattle.vms_counters.specs.Calls.{RefusesOrderTest, RefusesZoneTest, layout_of}
@@ -97,7 +97,7 @@ pub record IsOrderedTest (zone : PlaceId) (mark : WaterMark) (order most : ℕ) 
   pub truly : IfOk result (λ verdict. verdict.yes ≡ true → verdict.fast ≡ true →
       SaysTruly new.pass old.pass zone (limit_of old.header zone.number mark most))
   pub summed : IfOk result (λ verdict. verdict.fast ≡ false →
-      HasSummed new.pass old.pass (free_pages (layout_of old) zone) verdict.free)
+      SumsTruly new.pass old.pass (free_pages (layout_of old) zone) verdict.free)
   pub counts : IfOk result (λ verdict. verdict.yes ≡ true → order ≢ 0 →
       CountsBlocks old.header new.pass old.pass zone order verdict.area)
 

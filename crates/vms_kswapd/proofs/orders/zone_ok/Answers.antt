@@ -6,7 +6,7 @@ use Rattle.vms_kswapd.specs.Common.{Seeks}
 use Rattle.vms_kswapd.proofs.BlockCounts.{counts-whole_call, some-found}
 use Rattle.vms_kswapd.proofs.OrderTests.{found-passed, order-above, order-found, order-zero, with_area}
 use Rattle.vms_look.specs.Common.{SumsTruly}
-use Rattle.vms_look.proofs.Common.{tells-whole_call, truly-whole_call}
+use Rattle.vms_look.proofs.Common.{sums-whole_call, tells-whole_call, truly-whole_call}
 use Rattle.vms_seats.specs.Common.{Made}
 use Rattle.vms_kswapd.proofs.orders.zone_ok.Goals as goal
 
@@ -41,22 +41,20 @@ returns-clause-made g c =
     c.if-order-eq0.false new area (sought g c))
 
 pub returns-then-order-eq0-clause-summed : goal.returns-then-order-eq0-clause-summed
-returns-then-order-eq0-clause-summed g c slow = record {
-  last = g.P.Caller.pass c.watermark_ok-verdict.new.pass;
-  sums = subst (λ (shape : Shape). SumsTruly (g.P.Caller.pass c.watermark_ok-verdict.new.pass)
-      (g.P.Caller.pass c.args.pass.now) (free_pages shape c.args.zone) c.watermark_ok-verdict.result.free)
-      (sym c.requires.layout) (c.watermark_ok-verdict.ensures.summed slow);
-  until = Extends-same (g.P.Caller.pass c.watermark_ok-verdict.new.pass).seen;
-}
+returns-then-order-eq0-clause-summed g c slow =
+    subst (λ (shape : Shape). SumsTruly (g.P.Caller.pass c.watermark_ok-verdict.new.pass)
+    (g.P.Caller.pass c.args.pass.now) (free_pages shape c.args.zone) c.watermark_ok-verdict.result.free)
+    (sym c.requires.layout) (c.watermark_ok-verdict.ensures.summed slow)
 
 pub returns-clause-summed : goal.returns-clause-summed
-returns-clause-summed g c slow = record {
-  last = g.P.Caller.pass c.watermark_ok-verdict.new.pass;
-  sums = subst (λ (shape : Shape). SumsTruly (g.P.Caller.pass c.watermark_ok-verdict.new.pass)
-      (g.P.Caller.pass c.args.pass.now) (free_pages shape c.args.zone) c.watermark_ok-verdict.result.free)
-      (sym c.requires.layout) (c.watermark_ok-verdict.ensures.summed slow);
-  until = (sought g c).2.made.extends;
-}
+returns-clause-summed g c slow =
+    let old = g.P.Caller.pass c.args.pass.now in
+    sums-whole_call (g.P.Caller.pass c.block_within-area.new.pass) (g.P.Caller.pass c.watermark_ok-verdict.new.pass)
+    old old (free_pages c.args.header.now.layout c.args.zone) c.watermark_ok-verdict.result.free refl refl
+    (Extends-same old.seen) (sought g c).2.made.extends
+    (subst (λ (shape : Shape). SumsTruly (g.P.Caller.pass c.watermark_ok-verdict.new.pass) old
+    (free_pages shape c.args.zone) c.watermark_ok-verdict.result.free)
+    (sym c.requires.layout) (c.watermark_ok-verdict.ensures.summed slow))
 
 pub returns-clause-near : goal.returns-clause-near
 returns-clause-near g c fast =

@@ -1,7 +1,8 @@
 -- The three calls are a turn, the thresholds of its rule stand after it, and each threshold and mark was set twice at
 -- most.
-use Rattle.std.proofs.Common.{arith, ◌∙◌, sym, subst}
-use Rattle.vms_calls.specs.Common.{HasMade, Facts}
+use Rattle.std.proofs.Common.{arith, ◌∙◌, ap, sym, subst}
+use Rattle.vms_calls.specs.Common.{HasMade, Facts, IsTurn}
+use Rattle.vms_kswapd.proofs.TrueBalances.{names-both, names-yes, turns-truly}
 use Rattle.vms_kswapd.proofs.TurnRules.{rules-stand}
 use Rattle.vms_kswapd.proofs.TurnSteps.{facts-are, names-whole, tested-carries, tested-sets, turn-made}
 use Rattle.vms_kswapd.proofs.turns.kswapd_turn.Goals as goal
@@ -41,9 +42,23 @@ returns-clause-made g c =
 
 pub returns-clause-passed : goal.returns-clause-passed
 returns-clause-passed g c =
-    names-whole c.args.header.now c.settle.new.pass c.balanced-balance.new.pass c.set_pressure.new.pass
-    c.args.pass.now c.args.node c.args.order c.args.most c.balanced-balance.result c.set_pressure.ensures.made.0
-    c.settle.ensures.made.0 c.set_pressure.ensures.made.2 c.settle.ensures.made.2 c.balanced-balance.ensures.passed
+    let header = c.args.header.now in
+    let old = c.args.pass.now in
+    let pressure = g.P.Rule.answers c.args.rules.now.pressure in
+    let normal = g.N.Rule.answers c.args.rules.now.normal in
+    let made = returns-clause-made g c in
+    names-both header c.settle.new.pass old c.args.node c.args.order c.args.most c.balanced-balance.result
+    (names-whole header c.settle.new.pass c.balanced-balance.new.pass c.set_pressure.new.pass old c.args.node
+    c.args.order c.args.most c.balanced-balance.result c.set_pressure.ensures.made.0 c.settle.ensures.made.0
+    c.set_pressure.ensures.made.2 c.settle.ensures.made.2
+    (names-yes header c.balanced-balance.new.pass c.set_pressure.new.pass c.args.node c.args.order c.args.most
+    c.balanced-balance.result c.balanced-balance.ensures.passed))
+    (turns-truly header pressure normal c.settle.new.pass old c.args.node c.args.order c.args.most made.0
+    c.balanced-balance.result
+    (c.requires.layout ∙ sym (ap (λ (f : Facts). f.layout) c.requires.table.facts))
+    (c.requires.sizes ∙ sym (ap (λ (f : Facts). f.sizes) c.requires.table.facts))
+    (subst (λ (f : Facts). IsTurn header f.base pressure normal c.args.node c.args.order c.args.most old.number old.seen
+    made.0 c.balanced-balance.result) (sym c.requires.table.facts) made.1) made.2)
 
 pub returns-clause-carries : goal.returns-clause-carries
 returns-clause-carries g c nothing =

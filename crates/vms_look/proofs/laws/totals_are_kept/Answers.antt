@@ -4,7 +4,7 @@ use Rattle.vms_calls.specs.Common.{History, pages}
 use Rattle.vms_core.specs.Pages.{IsLegal}
 use Rattle.vms_core.proofs.Common.{laws-kept_before}
 use Rattle.vms_history.proofs.Common.{prefix_is_legal}
-use Rattle.vms_look.proofs.SlackBounds.{marks-bound}
+use Rattle.vms_near.proofs.SlackBounds.{marks-bound}
 use Rattle.vms_look.proofs.laws.totals_are_kept.Goals as goal
 
 pub returns : goal.returns

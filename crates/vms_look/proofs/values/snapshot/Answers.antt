@@ -1,7 +1,7 @@
 -- The goals were that the looks so far add up, what they are once all CPUs are past, and what they come to then.
 use Rattle.std.proofs.Common.{◌≡◌, ◌+◌, ◌≤◌, ℤ, ◌+ℤ◌, FitsSigned, w64, to_z, of_z, ap, sym, ◌∙◌, subst, arith}
 use Rattle.std.proofs.lemmas.Int.{ints, to_z-of_z}
-use Rattle.vms_calls.specs.Common.{Shape, IsCounter, Facts}
+use Rattle.vms_calls.specs.Common.{Shape, Facts}
 use Rattle.vms_look.proofs.LookSteps.{SoFar, so_far-none, so_far-fits, so_far-next, so_far-all, so_far-truly}
 use Rattle.vms_look.proofs.values.snapshot.Goals as goal
 
@@ -35,8 +35,7 @@ loop-number-preserved g c =
       c.cpus-number-end.ensures.value,
       c.cpus-number-end.ensures.is_layout.cpus_most,
     ) in
-    let k_in = subst (λ (f : Facts). IsCounter f.layout k.number) (sym c.requires.table.facts) c.requires.counter in
-    let more = so_far-next k now old n sum c.loop-number.invariant.0 k_in new found bound c.hidden-sum.ensures.made in
+    let more = so_far-next k now old n sum c.loop-number.invariant.0 new found bound c.hidden-sum.ensures.made in
     let found_fits : FitsSigned w64 found = omega (arith, ints, bound) in
     let found_is : sum +ℤ to_z w64 (of_z w64 found) ≡ sum +ℤ found =
     ap (λ (z : ℤ). sum +ℤ z) (to_z-of_z w64 found found_fits) in
@@ -76,5 +75,4 @@ returns-clause-truly g c =
     ) in
     so_far-truly k (g.P.Caller.pass c.loop-number.pass) (g.P.Caller.pass c.args.pass.now) c.loop-number.number
     (to_z w64 c.loop-number.sum-bits) c.loop-number.invariant.0
-    (subst (λ (f : Facts). IsCounter f.layout k.number) (sym facts) c.requires.counter)
     (all ∙ sym (ap (λ (f : Facts). f.layout.cpus) facts)) c.clamped.result c.clamped.ensures

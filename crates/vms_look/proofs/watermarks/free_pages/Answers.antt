@@ -1,7 +1,7 @@
 -- The goals were what the free pages rest on, with a snapshot and without, and what is true of them then.
 use Rattle.std.proofs.Common.{◌≡◌, ℕ, ◌<◌, inl, inr, ◌∙◌, ap, sym, subst, arith}
 use Rattle.vms_calls.specs.Common.{CounterId, Shape, IsZone, IsBase, counter_at, free_pages, Facts, pages}
-use Rattle.vms_history.proofs.Common.{Extends-both, base_can_begin}
+use Rattle.vms_history.proofs.Common.{Extends-both, Extends-same, base_can_begin}
 use Rattle.vms_look.specs.Common.{SaysTruly, SumsTruly, TellsTruly}
 use Rattle.vms_look.proofs.LookSteps.{sums-whole_call}
 use Rattle.vms_look.proofs.TestMoments.{tells_and_says}
@@ -82,8 +82,8 @@ returns-then-is_doubtful-clause-summed g c none =
     ap (λ (n : ℕ). record { number = n })
     (c.counter-counter.ensures.value ∙ ap (λ (shape : Shape). counter_at shape c.args.zone.number 0)
     c.layout.ensures) in
-    sums-whole_call new third old (free_pages c.args.table.now.facts.layout c.args.zone) c.snapshot.result
+    sums-whole_call new new third old (free_pages c.args.table.now.facts.layout c.args.zone) c.snapshot.result
     (last.facts ∙ second.facts ∙ first.facts) (last.number ∙ second.number ∙ first.number)
     (Extends-both third.seen two.seen old.seen last.made.extends
-    (Extends-both two.seen one.seen old.seen second.made.extends first.made.extends))
+    (Extends-both two.seen one.seen old.seen second.made.extends first.made.extends)) (Extends-same new.seen)
     (subst (λ (k : CounterId). SumsTruly new third k c.snapshot.result) is_free c.snapshot.ensures.truly)

@@ -19,7 +19,9 @@ returns g c = TextsLeadOn-holds g.E.Engine.Makes (record {
     event_lines = is.event_lines;
     pcpu_lines = is.pcpu_lines;
   }) fits.known fits.ascend;
-  near = c.reports_are_near.ensures;
+  near = c.reports_are_near.ensures.near;
+  worlds = c.reports_are_near.ensures.worlds;
+  sums = c.reported_sums_are_totals.ensures;
   adds = λ h start w items hs is fits makes before has.
       let lines = c.makes_lines.ensures h w items hs makes in
       let adds = c.phases_add_their_lines.ensures in

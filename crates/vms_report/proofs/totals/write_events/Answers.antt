@@ -4,7 +4,7 @@ use Rattle.std.proofs.Common.{rules, w64, to_z, of_z}
 use Rattle.std.specs.Fmt.{signed_decimal}
 use Rattle.std.proofs.lemmas.List.{get_or-map, length-map}
 use Rattle.vms_world.specs.Common.{event_names, sentence}
-use Rattle.vms_text.proofs.Common.{append_twice}
+use Rattle.vms_text.proofs.Common.{Begins-after, OnErr-true, append_twice}
 use Rattle.vms_report.specs.Common.{event_total}
 use Rattle.vms_report.proofs.Entries.{lines-more}
 use Rattle.vms_report.proofs.totals.write_events.Goals as goal
@@ -31,3 +31,7 @@ loop-number-preserved c =
     ++ sentence (codes "event" ∷ word ∷ signed_decimal z ∷ [])) name (kept ∙ c.event_total-total.ensures))
     c.loop-number.invariant
     (sym (lines-more sentence (λ x. codes "event" ∷ x.1 ∷ signed_decimal (total x.0) ∷ []) event_names n [] within))
+
+pub returns-in_err-write_named-clause-err : goal.returns-in_err-write_named-clause-err
+returns-in_err-write_named-clause-err c =
+    OnErr-true c.from_residual.result _ (Begins-after _ _ _ _ c.loop-number.invariant c.in_err-write_named.ensures.err)

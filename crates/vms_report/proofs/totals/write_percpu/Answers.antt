@@ -3,7 +3,7 @@ use Rattle.std.proofs.Common.{◌≡◌, ◌<◌, ◌∷◌, [], ◌++◌, ◌�
 use Rattle.std.proofs.Common.{rules, w64, to_z, of_z}
 use Rattle.std.specs.Fmt.{signed_decimal}
 use Rattle.vms_world.specs.Common.{Decl, sentence}
-use Rattle.vms_text.proofs.Common.{append_twice}
+use Rattle.vms_text.proofs.Common.{Begins-after, OnErr-true, append_twice}
 use Rattle.vms_report.specs.Common.{pcpu_total}
 use Rattle.vms_report.proofs.Entries.{lines-more}
 use Rattle.vms_report.proofs.totals.write_percpu.Goals as goal
@@ -26,3 +26,7 @@ loop-counter-preserved c =
     c.loop-counter.invariant
     (sym (lines-more sentence (λ x. codes "counter" ∷ x.1.name ∷ signed_decimal (total x.0) ∷ []) header.counters n d
     within))
+
+pub returns-in_err-write_named-clause-err : goal.returns-in_err-write_named-clause-err
+returns-in_err-write_named-clause-err c =
+    OnErr-true c.from_residual.result _ (Begins-after _ _ _ _ c.loop-counter.invariant c.in_err-write_named.ensures.err)

@@ -1,8 +1,8 @@
 -- The lines, one after another.
+use Rattle.vms_text.proofs.Common.{OnErr-true, Begins-after, OnErr-from, OnOk-from}
 use Rattle.std.proofs.Common.{◌≡◌, ◌∷◌, [], ◌++◌, ◌∙◌, List, ℕ, ℤ, ap, sym, codes, decimal, flat_map, rules, w64, to_z}
 use Rattle.std.proofs.Common.{of_z}
 use Rattle.vms_world.specs.Common.{ZoneSize, size_at, at_least_zero, mark_at, value_at, text_of}
-use Rattle.vms_text.proofs.Common.{Begins-after, OnErr-from, OnOk-from}
 use Rattle.vms_report.specs.Common.{indented, mark_lines, protection_words, told_value}
 use Rattle.vms_report.proofs.Pieces.{lines-in_turn}
 use Rattle.vms_report.proofs.zoneinfo.write_sizes.Goals as goal
@@ -41,3 +41,7 @@ returns-clause-err c =
     (Begins-after _ _ _ _ c.in_ok-write_marks.ensures.ok
     (Begins-after _ _ _ _ c.in_ok-write_indented-2.ensures.ok begins)))
     c.write_protection.ensures.err
+
+pub returns-in_err-write_marks-clause-err : goal.returns-in_err-write_marks-clause-err
+returns-in_err-write_marks-clause-err c =
+    OnErr-true c.from_residual-in_err-write_marks.result _ (Begins-after _ _ _ _ c.in_ok-write_indented.ensures.ok c.in_err-write_marks.ensures.err)

@@ -2,7 +2,7 @@
 use Rattle.vms_tool.proofs.OneOutput.{check-once, check_text-once, replay-once, replay_text-once}
 use Rattle.vms_tool.proofs.OneVerdict.{certify_text-once}
 use Rattle.vms_world.specs.Common.{normal_threshold_of, pressure_threshold_of}
-use Rattle.vms_walks.specs.Rules.{IsExactly}
+use Rattle.vms_own_acts.specs.Common.{IsExactly}
 use Rattle.vms_tool.proofs.laws.texts_have_one_output.Goals as goal
 
 pub returns-clause-replay : goal.returns-clause-replay

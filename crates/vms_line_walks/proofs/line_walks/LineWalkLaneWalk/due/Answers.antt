@@ -3,7 +3,7 @@ use Rattle.std.proofs.Common.{◌∷◌, refl}
 use Rattle.std.specs.Prelude.{◌↔◌, IfSome, IsNone, MatchOption, None, Option, Some}
 use Rattle.vms_plans.specs.declared.due_steps.DueStep.{DueStep}
 use Rattle.vms_phase_checks.specs.Common.{IsDueIn}
-use Rattle.vms_walks.specs.Rules.{IsExactly}
+use Rattle.vms_own_acts.specs.Common.{IsExactly}
 use Rattle.vms_world.specs.Common.{MakesActs, PageSteps, normal_threshold_of, pressure_threshold_of}
 use Rattle.vms_line_walks.specs.ExactRules.{for-alone}
 use Rattle.vms_line_walks.proofs.line_walks.LineWalkLaneWalk.due.Goals as goal

@@ -9,5 +9,5 @@ returns-clause-ok c = λ header base items h is. (
   more header base items h c.args.self is,
   IsPhaseInOrder-ended header base items h c.args.self is,
   c.in_ok-end.ensures.ok (lanes_of header.layout items) is.begins.count,
-  c.settle.ensures ∙ settled-ended header base items h c.args.self is,
+  c.settled.ensures ∙ settled-ended header base items h c.args.self is,
 )

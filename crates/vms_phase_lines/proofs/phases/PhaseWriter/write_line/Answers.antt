@@ -7,7 +7,7 @@ use Rattle.vms_plain_control.specs.PageCalls.{FitsPageCall}
 use Rattle.vms_world.specs.Common.{CpuId, IsLaneOf, Lane, is_among, lanes_of, normal_threshold_of, owner_of, page_call}
 use Rattle.vms_world.specs.Common.{pressure_threshold_of}
 use Rattle.vms_file_order.specs.Common.{pass_of}
-use Rattle.vms_walks.specs.Rules.{IsExactly}
+use Rattle.vms_own_acts.specs.Common.{IsExactly}
 use Rattle.vms_phase_lines.proofs.FoundPages.{FitsPageCall-found, HasAllForCall-found, among, lane_known}
 use Rattle.vms_phase_lines.proofs.MadeLines.{line-called, line-uncalled}
 use Rattle.vms_phase_lines.proofs.phases.PhaseWriter.write_line.Goals as goal

@@ -1,6 +1,6 @@
 -- The page counters are those that the boundary line makes.
 use Rattle.std.proofs.Common.{refl, subst, sym}
-use Rattle.vms_walks.specs.Rules.{IsExactly}
+use Rattle.vms_own_acts.specs.Common.{IsExactly}
 use Rattle.vms_world.specs.Common.{State, normal_threshold_of}
 use Rattle.vms_written.specs.Common.{CrossesPages}
 use Rattle.vms_written_states.specs.PageStarts.{IsPageStart}

@@ -14,10 +14,10 @@ returns-in_err-left g c =
     rw p.1 (EndsPhase-failed g.E.Engine.Makes c.args.header.now c.args.self.now _ _ _ c.args.out.now.items
     _ p.0 c.in_err-left.ensures)
 
-pub returns-in_err-text : goal.returns-in_err-text
-returns-in_err-text g c =
+pub returns-in_err-put_back : goal.returns-in_err-put_back
+returns-in_err-put_back g c =
     let self = c.args.self.now in
-    let p = err_from_is_err_and c.from_residual-in_err-text.result c.from_residual-in_err-text.ensures.1 in
+    let p = err_from_is_err_and c.from_residual-in_err-put_back.result c.from_residual-in_err-put_back.ensures.1 in
     let in_world : self.world ≡ Some c.in-Some.world = search rules in
     let script : c.make-script.result ≡ self.items.items = search rules in
     rw p.1 (EndsPhase-unwritten g.E.Engine.Makes c.args.header.now self _ _ _ c.args.out.now.items
@@ -47,6 +47,6 @@ returns g c =
     (adds.pages header c.in-Some.world self.items.items hs lines fits.known)
     (adds.events header c.in-Some.world self.items.items hs lines fits.known)
     (adds.counters header c.in-Some.world self.items.items hs is.world lines fits.known fits.ascend) has)
-    refl (search rules) c.in_ok-text.ensures.none
-    (λ told prints. c.in_ok-text.ensures.text header ∙ printed-all header _ _ told prints
+    c.in_ok-put_back.ensures.world c.in_ok-put_back.ensures.items c.in_ok-put_back.ensures.waits
+    (λ told prints. c.in_ok-put_back.ensures.text header ∙ printed-all header _ _ told prints
     ∙ ap₂ (λ (front : List ℕ) (ws : List Wait). front ++ written header ws told) text waiting)

@@ -1,10 +1,11 @@
--- The goals were that the main pass keeps settings while no control pass lives, and that those stand as one begins.
+-- The goals were that the main pass keeps settings while no control pass lives, that those stand as one begins, and that
+-- it needs none while that one lives.
 use Rattle.std.proofs.Common.{◌≡◌, None, sym, subst}
 use Rattle.vms_calls.specs.Common.{IsFree, Facts, Step, role}
 use Rattle.vms_seats.specs.Common.{Pass}
 use Rattle.vms_words.specs.declared.kept.Settings.{Settings}
-use Rattle.vms_words.specs.Common.{KeepsSettings}
-use Rattle.vms_words.proofs.MainSettings.{IsControlPass-begun}
+use Rattle.vms_words.specs.Common.{IsMainPass, KeepsSettings}
+use Rattle.vms_words.proofs.MainSettings.{IsControlPass-begun, IsMainPass-lent}
 use Rattle.vms_words.proofs.tables.PageTable.control_pass.Goals as goal
 
 pub unreachable-requires : goal.unreachable-requires
@@ -27,3 +28,8 @@ invariant_of-result c =
     IsControlPass-begun c.begin-worker.new.self c.main.inside.main c.begin-worker.result c.begin-worker.ensures
     c.in-Some.kept free
     (subst (λ (kept : Settings). KeepsSettings c.main.inside.main.facts c.main.inside.main.seen kept) same had.2)
+
+pub invariant_of-main : goal.invariant_of-main
+invariant_of-main c =
+    subst (IsMainPass c.begin-worker.new.self) (sym c.take.ensures.after)
+    (IsMainPass-lent c.begin-worker.new.self c.main.inside.main c.begin-worker.result c.begin-worker.ensures)

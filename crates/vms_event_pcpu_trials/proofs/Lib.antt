@@ -1,2 +1,0 @@
-pub mod EventVolumes
-pub mod CounterVolumes

@@ -1,5 +1,0 @@
-use Rattle.vms_seats.specs.Common.{IsFrom}
-use Rattle.vms_event_pcpu_trials.proofs.events.count_often.Given as goal
-
-abbrev pub invariant-loop : goal.invariant-loop
-invariant-loop l = IsFrom l.pass.pass l.table

@@ -1,0 +1,4 @@
+mod Rows
+mod Thresholds
+mod Marks
+mod Encodings

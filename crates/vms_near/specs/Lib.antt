@@ -1,0 +1,12 @@
+pub mod Hiding
+pub mod InFlight
+pub mod CallFlight
+pub mod Near
+pub mod ItemFlight
+pub mod SystemNear
+pub mod Slack
+pub mod HidingBounds
+pub mod Loads
+pub mod Tests
+pub mod Snapshots
+pub mod Balances
