@@ -1,4 +1,4 @@
--- What a dead CPU hid moves once.
+-- For other crates too: what a dead CPU hid moves once.
 use Rattle.std.proofs.Common.{◌≡◌, ℕ, suc, ◌<◌, ◌≤◌, ◌&&◌, ◌⊎◌, inl, inr, ⊎_elim, Bool, true, false, [], ◌∷◌, Option}
 use Rattle.std.proofs.Common.{Some, None, ℤ, pos, ◌+ℤ◌, unsigned_abs, refl, sym, ap, ◌∙◌, arith, if◌then◌else◌, nat_eq}
 use Rattle.std.proofs.Common.{nat_lt, eqb-true}

@@ -1,4 +1,4 @@
--- Nothing is lost of any item: system-wide values, differentials and what is carried add up to the true totals.
+-- For other crates too: system-wide values, differentials and what is carried add up to the true totals, by item.
 use Rattle.std.proofs.Common.{◌≡◌, ℕ, suc, zero, ◌+◌, ◌-◌, ◌*◌, ◌/◌, ◌<◌, ◌≤◌, ◌⊎◌, ◌&&◌, Bool, true, false, [], ◌∷◌}
 use Rattle.std.proofs.Common.{Option, Some, None, get_or, length-set, ℤ, pos, ◌+ℤ◌, ◌-ℤ◌, refl, sym, ap, ◌∙◌, arith}
 use Rattle.std.proofs.Common.{inl, inr, ⊎_elim, if◌then◌else◌, nat_eq, eq-eqb, eqb-true}

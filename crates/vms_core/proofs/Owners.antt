@@ -1,4 +1,4 @@
--- An owner after an event was one before or is new.
+-- For other crates too: an owner after an event was one before or is new.
 use Rattle.std.proofs.Common.{◌≡◌, ℕ, suc, Bool, true, false, [], ◌∷◌, Some, ◌⊎◌, inl, inr, refl, sym, ◌∙◌, arith}
 use Rattle.std.proofs.Common.{if◌then◌else◌, nat_eq, eqb-true}
 use Rattle.vms_history.specs.Common.{CpuId, own, Acts, Role, begun_in, lives_in, lives_after, owner_in, owner_after}

@@ -1,4 +1,4 @@
--- What the CPUs for which a test holds come to together.
+-- For other crates too: what the CPUs for which a test holds come to together.
 use Rattle.std.proofs.Common.{◌≡◌, ℕ, suc, zero, ◌+◌, ◌*◌, Bool, true, false, arith, if◌then◌else◌}
 use Rattle.vms_calls.specs.Common.{count_below}
 

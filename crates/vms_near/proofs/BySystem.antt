@@ -1,4 +1,4 @@
--- A system-wide value is as near its true total as the CPUs can hide and as is in flight, on each side.
+-- For other crates too: a system-wide value is as near its true total as CPUs can hide and is in flight, on each side.
 use Rattle.std.proofs.Common.{◌≡◌, ◌≢◌, ℕ, suc, ◌+◌, ◌≤◌, Bool, true, false, ℤ, pos, neg_ℤ, ◌+ℤ◌, ◌-ℤ◌, ◌≤ℤ◌, refl, ap}
 use Rattle.std.proofs.Common.{arith, subst, eq-eqb, if◌then◌else◌, unsigned_abs, Option, Some, None}
 use Rattle.std.proofs.lemmas.Int.{ints}

@@ -1,4 +1,4 @@
--- A value is as near its true total as the CPUs can hide and as is in flight, on each side.
+-- For other crates too: a value is as near its true total as the CPUs can hide and as is in flight, on each side.
 use Rattle.std.proofs.Common.{◌≡◌, ◌≢◌, ℕ, suc, ◌+◌, ◌≤◌, Bool, true, false, ℤ, pos, neg_ℤ, ◌+ℤ◌, ◌-ℤ◌, ◌≤ℤ◌, refl, sym}
 use Rattle.std.proofs.Common.{ap, ◌∙◌, arith, subst, eq-eqb, if◌then◌else◌, unsigned_abs, Some}
 use Rattle.std.proofs.lemmas.Int.{ints}
